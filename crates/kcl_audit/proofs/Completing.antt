@@ -1,4 +1,4 @@
--- If no source and no sink fails, the bytes alone decide the status of an audit, unless memory runs out.
+-- Without I/O faults the bytes decide an audit's status, unless memory runs out.
 use Rattle.std.proofs.Common.{◌≡◌, ◌≤◌, ℕ, List, Option, Some, None, refl, sym, ap, inl, inr, arith}
 use Rattle.std.specs.Prelude.{◌⊎◌}
 use Rattle.std.specs.Option.{IfSome}
@@ -9,8 +9,6 @@ use Rattle.kds_lines.specs.declared.outcome.Outcome.{Outcome}
 use Rattle.kds_lines.specs.declared.outcome.Outcome.TheVariants as outcome
 use Rattle.kcl_audit.specs.Audited.{AuditsAs, TellsAudit, audit_status}
 
--- If an audit of `bytes` ended with a status other than Read and Write, this is the status that the result for these
--- bytes gives, or Memory.
 by_bytes : (s : Status) (bytes : List ℕ) (held now : Option (List ℕ)) → (s ≡ status.Read → ⊥) → (s ≡ status.Write → ⊥)
     → TellsAudit s bytes held now
     → AuditsAs bytes s
@@ -22,16 +20,14 @@ by_bytes status.Write bytes held now read write t = absurd (write refl)
 by_bytes status.Memory bytes held now read write t = inr refl
 by_bytes _ bytes held now read write t = absurd t
 
--- The lemma `by_bytes` for bytes that may be unknown: if an audit ended with neither Read nor Write, the bytes decide
--- its status, unless it is Memory.
+-- `by_bytes` for bytes that may be unknown.
 pub completes : (s : Status) (all held now : Option (List ℕ)) → (s ≡ status.Read → ⊥) → (s ≡ status.Write → ⊥)
     → IfSome all (λ bytes. TellsAudit s bytes held now)
     → IfSome all (λ bytes. AuditsAs bytes s)
 completes s None held now read write t = tt
 completes s (Some bytes) held now read write t = by_bytes s bytes held now read write t
 
--- The sink has had `a` faults before the lines, `b` after the lines and `c` at the end. If a write failed along the
--- lines or after them, the sink has had more faults at the end than before the lines.
+-- A write that failed along the lines or after them raised the sink's faults.
 pub rose_since : (o : Outcome) (a b c : ℕ) → a ≤ b → b ≤ c → (o ≡ outcome.Write → Rose a b) → (o ≡ outcome.Write)
     ⊎ Rose b c → Rose a c
 rose_since o a b c ab bc along (inl w) = let r : Rose a b = along w in omega arith

@@ -1,4 +1,4 @@
--- The result of an audit of all bytes (`audit_of`), found from the progress along the lines that were taken.
+-- The result for all bytes, from the progress along the lines that were taken.
 use Rattle.std.proofs.Common.{◌≡◌, ℕ, Bool, true, false, List, [], ◌∷◌, ◌++◌, refl, sym, ap, ◌∙◌}
 use Rattle.std.proofs.lemmas.List.{append-nil}
 use Rattle.kds_base.proofs.Facts.{apart}
@@ -13,34 +13,27 @@ use Rattle.kcl_audit.specs.Stages.{end_by, is_bad, is_sound}
 
 -- ---- A bad entry
 
--- Once a bad entry was found, no further line changes the progress.
 stays : (n : ℕ) (r : Rule) (texts : List (List ℕ)) → progress_from (found n r) texts ≡ found n r
 stays n r [] = refl
 stays n r (text ∷ texts) = stays n r texts
 
--- The progress after the lines `texts` and then the lines `rest` is the progress after `rest`, from the progress after
--- `texts` on.
 pub appended : (p : Progress) (texts rest : List (List ℕ))
     → progress_from p (texts ++ rest) ≡ progress_from (progress_from p texts) rest
 appended p [] rest = refl
 appended p (text ∷ texts) rest = appended (step p text) texts rest
 
--- If the progress says that a bad entry was found, it has the entry's number and the rule.
 pub bad_is : (p : Progress) → is_bad p ≡ true → (n : ℕ) × (r : Rule) × (p ≡ found n r)
 bad_is (found n r) h = (n, r, refl)
 bad_is _ h = absurd cc
 
--- It can't be that a bad entry was found and that `is_bad` is false.
 pub is_bad_found : (p : Progress) → ((n : ℕ) × ((r : Rule) × (p ≡ found n r))) → false ≡ is_bad p → ⊥
 is_bad_found p h g = apart (is_bad p) (ap is_bad h.1.1) (sym g)
 
--- If no bad entry was found, nothing was written along the lines.
 pub unreported : (p : Progress) → is_bad p ≡ false → report p ≡ []
 unreported (found n r) h = absurd cc
 unreported _ h = refl
 
--- If a bad entry was found along the first lines `texts` of the bytes, the result of the audit of all bytes is this bad
--- entry.
+-- A bad entry among the first lines is the result for all bytes.
 pub found_in : (bytes : List ℕ) (texts rest : List (List ℕ)) (n : ℕ) (r : Rule) → (lined bytes).texts ≡ texts ++ rest
     → progress texts ≡ found n r
     → audit_of bytes ≡ unsound n r
@@ -50,8 +43,6 @@ found_in bytes texts rest n r parts is =
 
 -- ---- The result at the end of the lines
 
--- If `texts` are all lines of the bytes, the result of the audit follows from the progress after these lines and from
--- how the bytes end.
 pub ended : (bytes : List ℕ) (texts rest : List (List ℕ)) (end : End) → (lined bytes).texts ≡ texts ++ rest → rest ≡ []
     → (lined bytes).end ≡ end
     → audit_of bytes ≡ finish (progress texts) end
@@ -59,13 +50,11 @@ ended bytes texts rest end parts none is =
     ap (λ ts. finish (progress ts) (lined bytes).end) (parts ∙ ap (λ r. texts ++ r) none ∙ append-nil texts)
     ∙ ap (finish (progress texts)) is
 
--- If the result is that every entry is good, it has the number of the entries.
 pub sound_is : (end : AuditEnd) → is_sound end ≡ true → (n : ℕ) × (end ≡ sound n)
 sound_is (sound n) h = (n, refl)
 sound_is _ h = absurd cc
 
--- If the result at the end of the lines isn't that every entry is good, and the input isn't too long, then the result
--- is a bad entry.
+-- At the end of an input that isn't too long, a result that isn't sound is a bad entry.
 pub unsound_is : (p : Progress) (b : Bool) → is_sound (finish p (end_by b)) ≡ false → (n : ℕ) × (r : Rule)
     × (finish p (end_by b) ≡ unsound n r)
 unsound_is fresh true h = (next 0, rule.Form, refl)

@@ -1,4 +1,4 @@
--- An audit of the text of a legal journal finds every entry good, unless a line or the whole text is too long.
+-- An audit of a legal journal's text finds every entry good, unless a length is too great.
 use Rattle.std.proofs.Common.{◌≡◌, ◌⊎◌, ℕ, ◌+◌, ◌≤◌, ◌<◌, ◌^◌, Bool, true, false, cond, List, [], ◌∷◌, ◌++◌, length}
 use Rattle.std.proofs.Common.{map, Option, Some, None, refl, sym, ap, arith}
 use Rattle.std.proofs.Common.{subst, ◌∙◌, inl, inr}
@@ -33,18 +33,15 @@ cut_by true b ps h = cc
 cut_by false b [] h = cc
 cut_by false b (q ∷ qs) h = cc
 
--- Cutting bytes at their line feeds gives at least one piece, even for no bytes.
 pieces_there : (bytes : List ℕ) → pieces bytes ≡ [] → ⊥
 pieces_there [] h = cc
 pieces_there (b ∷ bs) h = cut_by (is_feed b) b (pieces bs) h
 
--- The pieces of a text without a line feed, then a line feed, then `z`, are the text and the pieces of `z`.
 pieces_line : (text z : List ℕ) → Lacks 10 text → pieces (text ++ 10 ∷ z) ≡ text ∷ pieces z
 pieces_line [] z lacks = slice_split-cons_yes is_feed 10 z refl
 pieces_line (b ∷ bs) z lacks = slice_split-cons_no is_feed b (bs ++ 10 ∷ z) lacks.0
     ∙ ap (onto_first b) (pieces_line bs z lacks.1)
 
--- The lines of the pieces `text` and then `ps` are `text` and the lines of `ps`, unless a length is too great.
 lined_cut : (used : ℕ) (text : List ℕ) (ps : List (List ℕ)) → (ps ≡ [] → ⊥)
     → lined_from used (text ∷ ps)
     ≡ (if is_too_long (length text) (used + length text + 1) then ended too_long else preceded text
@@ -52,8 +49,6 @@ lined_cut : (used : ℕ) (text : List ℕ) (ps : List (List ℕ)) → (ps ≡ []
 lined_cut used text [] there = absurd (there refl)
 lined_cut used text (q ∷ qs) there = refl
 
--- The lines of a text without a line feed, then a line feed, then `z`, are the text and the lines of `z`, unless a
--- length is too great. `used` bytes came before.
 lined_line : (used : ℕ) (text z : List ℕ) → Lacks 10 text
     → lined_from used (pieces (text ++ 10 ∷ z))
     ≡ (if is_too_long (length text) (used + length text + 1) then ended too_long else preceded text
@@ -63,30 +58,24 @@ lined_line used text z lacks =
 
 -- ---- The result of an audit, from a progress on
 
--- The result of an audit from the progress `p` on, for the lines and the end in `l`.
+-- The result of an audit from the progress `p` on, for the lines and end of `l`.
 abbrev ends : Progress → Lined → AuditEnd
 ends p l = finish (progress_from p l.texts) l.end
 
--- The result is that all `n` entries are good, or that a line or the input is too long.
+-- All `n` entries are good, or a length is too great.
 abbrev IsFine : ℕ → AuditEnd → Type 0
 IsFine n x = (x ≡ over) ⊎ (x ≡ sound n)
 
--- From the progress `p` on, the result of an audit of `bytes` is that all `n` entries are good, or that a length is too
--- great. This is true for every number of bytes that came before.
+-- From `p` on, an audit of the bytes is fine, however many bytes came before.
 abbrev Ends : Progress → List ℕ → ℕ → Type 0
 Ends p bytes n = (used : ℕ) → IsFine n (ends p (lined_from used (pieces bytes)))
 
--- Suppose that the result at the progress `p` is `over` if a line or the input is too long. If the result from the
--- progress after the line `text` on is fine, the result from `p` on, with this line, is fine too. `b` says whether a
--- length is too great at this line.
 past_by : (b : Bool) (p : Progress) (text : List ℕ) (l : Lined) (n : ℕ) → finish p too_long ≡ over
     → IsFine n (ends (step p text) l)
     → IsFine n (ends p (if b then ended too_long else preceded text l))
 past_by true p text l n stops later = inl stops
 past_by false p text l n stops later = later
 
--- Suppose that the result at the progress `p` is `over` if a line or the input is too long. If an audit of `z` ends
--- well from the progress after the line `text` on, then an audit of this line and `z` ends well from `p` on (`Ends`).
 past : (p : Progress) (text z : List ℕ) (n : ℕ) → finish p too_long ≡ over → Lacks 10 text → Ends (step p text) z n
     → Ends p (text ++ 10 ∷ z) n
 past p text z n stops lacks later used =
@@ -94,45 +83,39 @@ past p text z n stops lacks later used =
     subst (λ l. IsFine n (ends p l)) (sym (lined_line used text z lacks)) (
     past_by (is_too_long (length text) more) p text (lined_from more (pieces z)) n stops (later more))
 
--- If the result is `over`, the input ended with a length that is too great.
 finish_over : (p : Progress) (end : End) → finish p end ≡ over → end ≡ too_long
 finish_over (found n r) end h = absurd cc
 finish_over _ end h = grind (arith, h)
 
--- If the result of an audit of the bytes is `over`, then the bytes end with a length that is too great.
+-- The result `over` comes only from bytes that end with a length that is too great.
 pub over_so : (bytes : List ℕ) → audit_of bytes ≡ over → (lined bytes).end ≡ too_long
 over_so bytes h = finish_over (progress (lined bytes).texts) (lined bytes).end h
 
--- A result that is fine and not `over` is that all `n` entries are good.
 fine_so : (n : ℕ) (x : AuditEnd) → IsFine n x → x ≢ over → x ≡ sound n
 fine_so n x (inl is) not_over = absurd (not_over is)
 fine_so n x (inr is) not_over = is
 
 -- ---- The lines of a legal journal
 
--- If a journal is legal, so is each journal that it continues.
 legal_before : (xs : List Line) (log : Journal) → IsLegal (with_lines xs log) → IsLegal log
 legal_before [] log legal = legal
 legal_before (x ∷ xs) log legal = (legal_before xs (x ∷ log) legal).1
 
--- In a legal journal, each line is good after the lines before it.
 good_first : (x : Line) (xs : List Line) (log : Journal) → IsLegal (with_lines (x ∷ xs) log) → IsGood log x
 good_first x xs log legal = (legal_before xs (x ∷ log) legal).0
 
--- The text is that of an entry or of the last line. So it isn't the heading.
+-- The text is an entry or a last line, and so no heading.
 abbrev IsTold : ℕ → List ℕ → Type 0
 IsTold v text = entry_of v text ≡ None → end_of text ≡ None → ⊥
 
--- An Option that has a value isn't None.
 is_there : {A : Type 0} (o : Option A) (x : A) → o ≡ Some x → o ≡ None → ⊥
 is_there None x is none = cc
 is_there (Some y) x is none = cc
 
--- The text of the entries `es` and of the last line with the clock `end`, without the heading.
+-- The text of a journal without its heading.
 abbrev rest_text : ℕ → List EntryLine → ℕ → List ℕ
 rest_text v es end = flat_map (λ e. with_feed (entry_spelling v e)) es ++ with_feed (end_spelling end)
 
--- The text of the entries begins with the line of the first entry.
 rest_cons : (v : ℕ) (e : EntryLine) (es : List EntryLine) (end : ℕ)
     → rest_text v (e ∷ es) end ≡ entry_spelling v e ++ 10 ∷ rest_text v es end
 rest_cons v e es end =
@@ -140,8 +123,7 @@ rest_cons v e es end =
     (with_feed (end_spelling end))
     ∙ append_assoc (entry_spelling v e) (10 ∷ []) (rest_text v es end)
 
--- In this module, the laws about the texts of entries and of the last line, and about the judge's verdict on a good
--- line, are taken as given.
+-- The laws about the texts of entries and last lines, and about good lines' verdicts, are assumed.
 module _ (again : (v : ℕ) (line : EntryLine) → IsEntryLine v line → entry_of v (entry_spelling v line) ≡ Some line)
     (end_again : (clock : ℕ) → clock < 2 ^ 62 → end_of (end_spelling clock) ≡ Some clock)
     (apart : (v : ℕ) (text : List ℕ) (clock : ℕ) → end_of text ≡ Some clock → entry_of v text ≡ None)
@@ -149,13 +131,11 @@ module _ (again : (v : ℕ) (line : EntryLine) → IsEntryLine v line → entry_
     (one_line : (v : ℕ) (line : EntryLine) → IsEntryLine v line → Lacks 10 (entry_spelling v line))
     (end_line : (clock : ℕ) → clock < 2 ^ 62 → Lacks 10 (end_spelling clock))
     (good : (log : Journal) (line : Line) → IsGood log line → verdict log line ≡ Ok tt) where
-  -- After the text of a good entry, the progress has this entry added.
   entry_step : (v : ℕ) (log : Journal) (count : ℕ) (e : EntryLine) → IsEntryLine v e → IsGood log (line_of e)
       → line_step v log count (entry_spelling v e) ≡ going v (line_of e ∷ log) (next count)
   entry_step v log count e is its = ap (after_line v log count (entry_spelling v e)) (again v e is)
       ∙ ap (after_entry v log count e) (good log (line_of e) its)
 
-  -- After the text of the last line, whose clock isn't below the journal's, the progress is `closed`.
   end_step : (v : ℕ) (log : Journal) (count end : ℕ) → end < 2 ^ 62 → last_clock log ≤ end
       → line_step v log count (end_spelling end) ≡ closed count
   end_step v log count end in_time order =
@@ -163,9 +143,6 @@ module _ (again : (v : ℕ) (line : EntryLine) → IsEntryLine v line → entry_
       ∙ ap (after_other log count) (end_again end in_time)
       ∙ ap (λ b. after_end count (if b then Err rule.Clock else Ok tt)) (not_below (last_clock log) end order)
 
-  -- Suppose that the entries `es` after the journal `log` make a legal journal. Suppose also that `p` goes on with each
-  -- line as the progress after the `count` entries of `log` does. Then an audit of the text of `es` and of the last
-  -- line ends well from `p` on (`Ends`).
   rest_ends : (v : ℕ) (log : Journal) (count : ℕ) (es : List EntryLine) (end : ℕ) (p : Progress) → end < 2 ^ 62
       → AllByRecursion (IsEntryLine v) es
       → IsLegal (with_lines (map line_of es) log) → last_clock (with_lines (map line_of es) log) ≤ end
@@ -189,37 +166,32 @@ module _ (again : (v : ℕ) (line : EntryLine) → IsEntryLine v line → entry_
       past p (entry_spelling v e) (rest_text v es end) (counted (next count) es) stops (one_line v e lines.0)
       (subst (λ q. Ends q (rest_text v es end) (counted (next count) es)) (sym goes) later))
 
-  -- The first line of a text of the first version isn't the heading. So the first step of an audit of this text is that
-  -- of an entry or of the last line (`line_step`).
   fresh_by : (text : List ℕ) (b : Bool) → bytes_eq text heading ≡ b → IsTold FIRST_VERSION text
       → (if b then going VERSION [] 0 else line_step FIRST_VERSION [] 0 text) ≡ line_step FIRST_VERSION [] 0 text
-  fresh_by text true is told =
+  fresh_by text true is is_told =
       let same = (bytes_eq-Decides text heading).0 is in
-      absurd (told (ap (entry_of FIRST_VERSION) same ∙ (no_heading FIRST_VERSION).0) (ap end_of same
+      absurd (is_told (ap (entry_of FIRST_VERSION) same ∙ (no_heading FIRST_VERSION).0) (ap end_of same
       ∙ (no_heading FIRST_VERSION).1))
-  fresh_by text false is told = refl
+  fresh_by text false is is_told = refl
 
-  -- An audit of the text of a legal journal in the first version ends well (`Ends`).
   first_ends : (es : List EntryLine) (end : ℕ) → end < 2 ^ 62 → AllByRecursion (IsEntryLine FIRST_VERSION) es
       → IsLegal (with_lines (map line_of es) []) → last_clock (with_lines (map line_of es) []) ≤ end
       → Ends fresh (entries_text FIRST_VERSION es end) (counted 0 es)
   first_ends es end in_time lines legal order =
       rest_ends FIRST_VERSION [] 0 es end fresh in_time lines legal order refl
-      (λ text told. fresh_by text (bytes_eq text heading) refl told)
+      (λ text is_told. fresh_by text (bytes_eq text heading) refl is_told)
 
-  -- An audit of the text of a legal journal in the second version ends well (`Ends`).
   second_ends : (es : List EntryLine) (end : ℕ) → end < 2 ^ 62 → AllByRecursion (IsEntryLine VERSION) es
       → IsLegal (with_lines (map line_of es) []) → last_clock (with_lines (map line_of es) []) ≤ end
       → Ends fresh (entries_text VERSION es end) (counted 0 es)
   second_ends es end in_time lines legal order =
       let rest = rest_text VERSION es end in
       let later = rest_ends VERSION [] 0 es end (going VERSION [] 0) in_time lines legal order refl
-      (λ text told. refl) in
+      (λ text is_told. refl) in
       let lacks : Lacks 10 heading = (refl, (refl, (refl, (refl, (refl, (refl, (refl, (refl, (refl, tt))))))))) in
       subst (λ z. Ends fresh z (counted 0 es)) (sym (append_assoc heading (10 ∷ []) rest))
       (past fresh heading rest (counted 0 es) refl lacks later)
 
-  -- An audit of the text of a legal journal in any version ends well (`Ends`).
   version_ends : (v : ℕ) (es : List EntryLine) (end : ℕ) → IsVersion v → end < 2 ^ 62
       → AllByRecursion (IsEntryLine v) es
       → IsLegal (with_lines (map line_of es) []) → last_clock (with_lines (map line_of es) []) ≤ end
@@ -233,7 +205,6 @@ module _ (again : (v : ℕ) (line : EntryLine) → IsEntryLine v line → entry_
       subst (λ w. Ends fresh (entries_text w es end) (counted 0 es)) (sym is)
       (second_ends es end in_time these legal order)
 
-  -- An audit of the text of a legal journal with `n` entries finds all of them good, unless a length is too great.
   pub legal_text : (bytes : List ℕ) (n : ℕ) → IsJournal bytes n → audit_of bytes ≢ over → audit_of bytes ≡ sound n
   legal_text bytes n j not_over =
       let its : journal_of j.entries ≡ with_lines (map line_of j.entries) [] =

@@ -1,5 +1,4 @@
--- An audit that ends with Done shows that the state after the text's journal is safe. An audit that ends with Unsound
--- shows that the text is that of no legal journal.
+-- Done shows that the state after the text's journal is safe; Unsound, that no legal journal has the text.
 use Rattle.std.proofs.Common.{◌≡◌, ℕ, List, Option, Some, None, sym, ◌∙◌}
 use Rattle.std.specs.Option.{IfSome}
 use Rattle.kds_defs.specs.Journal.{Journal}
@@ -11,14 +10,11 @@ use Rattle.kcl_audit.specs.Progress.{audit_of, over, sound, unsound}
 use Rattle.kcl_audit.specs.Text.{IsJournal, journal_of}
 use Rattle.kcl_audit.specs.Audited.{IsNoJournal, IsSafely, TellsAudit}
 
--- If `P` is true of the value of an Option, so is `Q`, which follows from it.
 pub some_so : {P Q : List ℕ → Type 0} (o : Option (List ℕ)) → IfSome o P → ((b : List ℕ) → P b → Q b) → IfSome o Q
 some_so None p f = tt
 some_so (Some b) p f = f b p
 
--- Two laws are taken as given: a text whose entries are all good is that of a legal journal, and the state after a
--- legal journal is safe. Then an audit that ends with Done shows that its bytes are the text of a legal journal after
--- which the state is safe.
+-- Assumes that sound texts are legal journals, and that states after these are safe.
 pub safely : ((bytes : List ℕ) (n : ℕ) → audit_of bytes ≡ sound n → IsJournal bytes n)
     → ((log : Journal) (c : ℕ) → IsReached log c → IsSafe log c)
     → (bytes : List ℕ) (held now : Option (List ℕ)) → TellsAudit status.Done bytes held now → IsSafely bytes
@@ -30,16 +26,13 @@ safely legal safe bytes held now t =
       safe = safe (journal_of j.entries) j.end (record { legal = j.legal; order = j.order });
     }
 
--- An audit with a bad entry doesn't have the result that a length is too great.
 never_over : (bytes : List ℕ) (n : ℕ) (r : Rule) → audit_of bytes ≡ unsound n r → audit_of bytes ≡ over → ⊥
 never_over bytes n r is too = let e : unsound n r ≡ over = sym is ∙ too in absurd cc
 
--- An audit doesn't have both a bad entry and the result that all entries are good.
 never_both : (bytes : List ℕ) (n m : ℕ) (r : Rule) → audit_of bytes ≡ unsound n r → audit_of bytes ≡ sound m → ⊥
 never_both bytes n m r is so = let e : unsound n r ≡ sound m = sym is ∙ so in absurd cc
 
--- A law is taken as given: an audit of the text of a legal journal finds all entries good, unless a length is too
--- great. Then an audit that ends with Unsound shows that its bytes are the text of no legal journal.
+-- Assumes that an audit finds legal journals good unless a length is too great.
 pub no_journal : ((bytes : List ℕ) (n : ℕ) → IsJournal bytes n → (audit_of bytes ≡ over → ⊥) → audit_of bytes ≡ sound n)
     → (bytes : List ℕ) (held now : Option (List ℕ)) → TellsAudit status.Unsound bytes held now → IsNoJournal bytes
 no_journal sounds bytes held now t n j =

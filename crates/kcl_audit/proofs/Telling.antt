@@ -1,4 +1,4 @@
--- What is true of an audit at its end (`TellsAudit`), derived from how the reading of its input ended.
+-- What holds of an audit at its end, from how the reading of its input ended.
 use Rattle.std.proofs.Common.{◌≡◌, ℕ, Bool, true, false, List, [], ◌∷◌, ◌++◌, Option, refl, sym, ap, ◌∙◌, subst}
 use Rattle.std.proofs.lemmas.List.{append_assoc, append-nil}
 use Rattle.std.specs.Io.KnownBytes.{Appends}
@@ -15,19 +15,16 @@ use Rattle.kcl_audit.proofs.Ends.{bad_is, ended, found_in, sound_is, unreported,
 
 -- ---- Known bytes
 
--- If two lists together are empty, the first of them is empty.
 empty_front : (xs ys : List ℕ) → [] ≡ xs ++ ys → xs ≡ []
 empty_front [] ys h = refl
 empty_front (x ∷ xs) ys h = absurd cc
 
 -- ---- Along the lines
 
--- In this module, `texts` are the lines of the bytes that were taken, and `rest` those that weren't. Of the output
--- along the lines, `front` was written and `back` wasn't. The sink held `held` before this output and `mid` after it.
+-- `texts` were taken and `rest` not; of their output `front` was written and `back` not.
 module _ (bytes : List ℕ) (texts rest : List (List ℕ)) (front back : List ℕ) (held mid : Option (List ℕ))
     (parts : (lined bytes).texts ≡ texts ++ rest) (output : report (progress texts) ≡ front ++ back)
     (written : Appends held mid front) where
-  -- A prefix of the audit's whole text was written.
   front_told : AppendsFront held mid (audit_text (audit_of bytes))
   front_told = either (is_bad (progress texts)) refl
     where
@@ -43,20 +40,17 @@ module _ (bytes : List ℕ) (texts rest : List (List ℕ)) (front back : List �
           let none = empty_front front back (sym (unreported (progress texts) h) ∙ output) in
           (front, audit_text (audit_of bytes), ap (λ z. z ++ audit_text (audit_of bytes)) (sym none), written)
 
-  -- What the status Write says is true.
   pub write_tells : TellsAudit status.Write bytes held mid
   write_tells = front_told
 
-  -- What the status Memory says is true.
   pub memory_tells : TellsAudit status.Memory bytes held mid
   memory_tells = front_told
 
-  -- In this module, all of the output along the lines was written.
+  -- All of the output along the lines was written.
   module _ (all : back ≡ []) where
     reported : report (progress texts) ≡ front
     reported = output ∙ ap (λ z. front ++ z) all ∙ append-nil front
 
-    -- If an entry is bad, what the status Unsound says is true.
     pub bad_tells : is_bad (progress texts) ≡ true → TellsAudit status.Unsound bytes held mid
     bad_tells h =
         let b = bad_is (progress texts) h in
@@ -68,20 +62,16 @@ module _ (bytes : List ℕ) (texts rest : List (List ℕ)) (front back : List �
               written,
         )
 
-    -- If no entry is bad, nothing was written.
     nothing : is_bad (progress texts) ≡ false → Appends held mid []
     nothing h = subst (λ (z : List ℕ). Appends held mid z) (sym reported ∙ unreported (progress texts) h) written
 
-    -- If no entry is bad, what the status Read says is true.
     pub read_tells : is_bad (progress texts) ≡ false → TellsAudit status.Read bytes held mid
     read_tells h = nothing h
 
     -- ---- At the end of the lines
 
-    -- In this module, all lines of the bytes were taken. `b` says whether the bytes end inside a line.
+    -- All lines were taken, and `b` says whether the bytes end inside a line.
     module _ (b : Bool) (now : Option (List ℕ)) (none : rest ≡ []) (is : (lined bytes).end ≡ end_by b) where
-      -- The result of the audit of the bytes is what `finish` gives for the progress after all lines and for how the
-      -- bytes end.
       said : audit_of bytes ≡ finish (progress texts) (end_by b)
       said = ended bytes texts rest (end_by b) parts none is
 
@@ -89,7 +79,6 @@ module _ (bytes : List ℕ) (texts rest : List (List ℕ)) (front back : List �
           → front ++ added ≡ audit_text (audit_of bytes)
       whole_text added text = ap (λ z. z ++ added) (sym reported) ∙ text ∙ ap audit_text (sym said)
 
-      -- If the rest of the audit's text is added to the output along the lines, the audit's whole text was written.
       wrote_all : (added : List ℕ) → report (progress texts) ++ added ≡ audit_text (finish (progress texts) (end_by b))
           → Appends mid now added
           → Appends held now (audit_text (audit_of bytes))
@@ -97,8 +86,7 @@ module _ (bytes : List ℕ) (texts rest : List (List ℕ)) (front back : List �
           subst (λ (z : List ℕ). Appends held now z) (whole_text added text)
           (Appends-trans held mid now front added written w)
 
-      -- If the end of the audit did what the status `s` says (`TellsEnd`), then what this status says of the whole
-      -- audit is true.
+      -- The status at the audit's end holds for the whole audit.
       pub end_tells : (s : Status) → TellsEnd s (finish (progress texts) (end_by b)) (report (progress texts)) mid now
           → TellsAudit s bytes held now
       end_tells status.Done t =

@@ -1,5 +1,4 @@
--- After a judgement of an entry of a stream, the judge's verdict is the right one. If the entry is good, the judge
--- represents the journal with the entry's line.
+-- A judgement of a stream's entry gives the right verdict; after a good entry the judge represents the journal.
 use Rattle.std.proofs.Common.{◌≡◌, ℕ, List, ◌∷◌, sym, subst, ◌∙◌}
 use Rattle.std.specs.Prelude.{is_some, true, Result, Ok, Err, IfOk, OnOk}
 use Rattle.kds_defs.proofs.Elsewhere.{of_some}
@@ -23,44 +22,40 @@ use Rattle.kcl_audit_judge.proofs.StreamsAfter.{shows_after, stream_told}
 
 -- ---- An entry of a stream
 
--- In this module, the judge `a` has the streams `old`, the rows `rs` and the tenures `ts`, and `new` are its streams
--- after the judgement. `what` is an entry of a stream.
+-- `a` has `old` streams before the judgement of a stream's entry, and `new` are its streams after it.
 module _ (a : JudgeValue) (old new : StreamsValue) (rs : List Row) (ts : List TenureValue) (is_a : judge old rs ts ≡ a)
-    (by : ℕ) (what : Entry)
-    (of : is_some (stream_of what) ≡ true) (log : Journal) where
-  -- If `v` is the verdict that is computed from the streams, and the judge represents the journal, then `v` is the
-  -- verdict on the entry after this journal.
-  told_by_value : (v : Verdict) → v ≡ stream_verdict old.streams old.clock what → Holds a log
-      → v ≡ judged (told log (entry_line a.streams.clock by what) what) what
+    (actor : ℕ) (entry : Entry)
+    (is_of : is_some (stream_of entry) ≡ true) (log : Journal) where
+  told_by_value : (v : Verdict) → v ≡ stream_verdict old.streams old.clock entry → Holds a log
+      → v ≡ judged (told log (entry_line a.streams.clock actor entry) entry) entry
   told_by_value v is = subst (λ (x : JudgeValue). Holds x log
-      → v ≡ judged (told log (entry_line x.streams.clock by what) what) what) is_a (
-      λ st. is ∙ sym (stream_told old log by what st.shows (of_some (stream_of what) of)))
+      → v ≡ judged (told log (entry_line x.streams.clock actor entry) entry) entry) is_a (
+      λ st. is ∙ sym (stream_told old log actor entry st.shows (of_some (stream_of entry) is_of)))
 
-  -- The lemma `told_by_value` for a call whose result `r` has the verdict, if it is Ok.
-  pub stream_value : {E : Type 0} (r : Result Verdict E) → IfOk r (λ v. v ≡ stream_verdict old.streams old.clock what)
+  -- `told_by_value` for a call that may fail.
+  pub stream_value : {E : Type 0} (r : Result Verdict E) → IfOk r (λ v. v ≡ stream_verdict old.streams old.clock entry)
       → Holds a log
-      → IfOk r (λ v. v ≡ judged (told log (entry_line a.streams.clock by what) what) what)
+      → IfOk r (λ v. v ≡ judged (told log (entry_line a.streams.clock actor entry) entry) entry)
   stream_value (Ok v) is st = told_by_value v is st
   stream_value (Err e) is st = tt
 
-  -- If the verdict is Ok, and the streams were changed as `streams_after` says, then the judge with the new streams
-  -- represents the journal with the entry's line.
-  added_by_value : (v : Verdict) → new.clock ≡ old.clock → v ≡ stream_verdict old.streams old.clock what
-      → OnOk v (new.streams ≡ streams_after old.clock what old.streams) → Holds a log
-      → OnOk v (Holds (judge new rs ts) (entry_line a.streams.clock by what ∷ log))
-  added_by_value (Ok u) at is after =
-      subst (λ (x : JudgeValue). Holds x log → Holds (judge new rs ts) (entry_line x.streams.clock by what ∷ log)) is_a
+  added_by_value : (v : Verdict) → new.clock ≡ old.clock → v ≡ stream_verdict old.streams old.clock entry
+      → OnOk v (new.streams ≡ streams_after old.clock entry old.streams) → Holds a log
+      → OnOk v (Holds (judge new rs ts) (entry_line a.streams.clock actor entry ∷ log))
+  added_by_value (Ok u) is_at is after =
+      subst (λ (x : JudgeValue). Holds x log → Holds (judge new rs ts) (entry_line x.streams.clock actor entry ∷ log))
+      is_a
       (λ st.
-      let apart = of_some (stream_of what) of in
+      let apart = of_some (stream_of entry) is_of in
       stands_beside (facing old.clock (Shows old)) (facing new.clock (Shows new)) rs ts log
-      (entry_line old.clock by what) apart
-      (shows_after old new log by what st.shows apart (sym is) at after) st)
-  added_by_value (Err e) at is after = λ st. tt
+      (entry_line old.clock actor entry) apart
+      (shows_after old new log actor entry st.shows apart (sym is) is_at after) st)
+  added_by_value (Err e) is_at is after = λ st. tt
 
-  -- The lemma `added_by_value` for a call whose result `r` has the verdict, if it is Ok.
+  -- `added_by_value` for a call that may fail.
   pub stream_good : {E : Type 0} (r : Result Verdict E) → new.clock ≡ old.clock
-      → IfOk r (λ v. v ≡ stream_verdict old.streams old.clock what)
-      → IfOk r (λ v. OnOk v (new.streams ≡ streams_after old.clock what old.streams)) → Holds a log
-      → IfOk r (λ v. OnOk v (Holds (judge new rs ts) (entry_line a.streams.clock by what ∷ log)))
-  stream_good (Ok v) at is after st = added_by_value v at is after st
-  stream_good (Err e) at is after st = tt
+      → IfOk r (λ v. v ≡ stream_verdict old.streams old.clock entry)
+      → IfOk r (λ v. OnOk v (new.streams ≡ streams_after old.clock entry old.streams)) → Holds a log
+      → IfOk r (λ v. OnOk v (Holds (judge new rs ts) (entry_line a.streams.clock actor entry ∷ log)))
+  stream_good (Ok v) is_at is after st = added_by_value v is_at is after st
+  stream_good (Err e) is_at is after st = tt

@@ -12,6 +12,7 @@ ghost use Rattle.kcl_audit_streams.specs.Verdict.{IsFit, verdict};
 /// within their ranges (`IsFit`).
 pub fn exact()
     ensures good { (log : Journal) (line : Line) → IsGood log line → verdict log line ≡ Ok tt }
-    ensures ok { (log : Journal) (c by : ℕ) (what : Entry) → IsFit what → verdict log (entry_line c by what) ≡ Ok tt
-        → IsGood log (entry_line c by what) }
+    ensures ok { (log : Journal) (c actor : ℕ) (entry : Entry) → IsFit entry
+        → verdict log (entry_line c actor entry) ≡ Ok tt
+        → IsGood log (entry_line c actor entry) }
 {}

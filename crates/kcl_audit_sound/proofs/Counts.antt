@@ -1,5 +1,4 @@
--- A legal journal has few enough streams, shards and tenures for their numbers to fit into 64 bits. `last_number` is
--- the greatest number that a stream, a tenure or a record may have.
+-- A legal journal's streams, shards and tenures are few enough for 64-bit numbers.
 use Rattle.std.proofs.Common.{◌≡◌, ℕ, zero, suc, ◌+◌, ◌^◌, ◌<◌, ◌≤◌, Bool, true, false, List, [], ◌∷◌, length, refl, ap}
 use Rattle.std.proofs.Common.{arith}
 use Rattle.std.specs.Prelude.{◌==◌, slice_get, if◌then◌else◌, Option, Some, None}
@@ -27,14 +26,11 @@ use Rattle.kcl_sim_scribe.proofs.Lists.{found_is}
 use Rattle.kcl_sim_scribe.proofs.Making.{length_made}
 use Rattle.kcl_sim_scribe.proofs.Readings.{live_below}
 
--- If `n` is at most `last_number` and isn't this number, then `n` + 1 is at most `last_number`.
 pub one_more : (n : ℕ) → (n == last_number) ≡ false → n ≤ last_number → n + 1 ≤ last_number
 one_more n h le = grind (arith, nat_tests)
 
 -- ---- Streams and tenures
 
--- If an entry is accepted, and at most `last_number` streams were made before the entry, then this is still true after
--- the entry.
 made_by : (log : Journal) (line : Line) (e : Entry) (reply : Reply) → told log line e ≡ Accepted (line ∷ []) reply
     → made_count log ≤ last_number
     → made_count_after e (made_count log) ≤ last_number
@@ -45,13 +41,11 @@ made_by log line (entry.Made s name count) reply h le =
     one_more (made_count log) d.0 le
 made_by log line _ reply h le = le
 
--- In a legal journal, at most `last_number` streams were made.
+-- At most `last_number` streams are made in a legal journal.
 pub made_fits : (log : Journal) → IsLegal log → made_count log ≤ last_number
 made_fits [] legal = omega arith
 made_fits (line ∷ log) legal = made_by log line line.what legal.0.reply legal.0.allowed (made_fits log legal.1)
 
--- If an entry is accepted, and at most `last_number` tenures began before the entry, then this is still true after the
--- entry.
 taken_by : (log : Journal) (line : Line) (e : Entry) (reply : Reply) → told log line e ≡ Accepted (line ∷ []) reply
     → taken_count log ≤ last_number
     → taken_count_after e (taken_count log) ≤ last_number
@@ -63,12 +57,11 @@ taken_by log line (entry.Taken key t counter owner) reply h le =
     one_more (taken_count log) (or_parts _ _ d.0).1 le
 taken_by log line _ reply h le = le
 
--- In a legal journal, at most `last_number` tenures began.
+-- At most `last_number` tenures begin in a legal journal.
 pub taken_fits : (log : Journal) → IsLegal log → taken_count log ≤ last_number
 taken_fits [] legal = omega arith
 taken_fits (line ∷ log) legal = taken_by log line line.what legal.0.reply legal.0.allowed (taken_fits log legal.1)
 
--- In a legal journal, the number of a live stream that is found by its name fits into 64 bits.
 pub named_fits : (log : Journal) (name : List ℕ) (s : ℕ) → IsLegal log → stream_named log name ≡ Some s → s < 2 ^ 64
 named_fits log name s legal h =
     let made : s ≤ made_count log =
@@ -83,14 +76,12 @@ either_fits : (b : Bool) (xs ys : List ShardState) → (b ≡ true → length xs
 either_fits true xs ys h g = h refl
 either_fits false xs ys h g = g
 
--- If an entry with numbers in their ranges is accepted, and a stream had at most 2^64 shards before the entry, then
--- this is still true after the entry.
 shards_by : (log : Journal) (line : Line) (e : Entry) (reply : Reply) (s start : ℕ) → IsInRange e
     → told log line e ≡ Accepted (line ∷ []) reply
     → length (shards log s) ≤ 2 ^ 64 → length (shards_after line e s start (shards log s)) ≤ 2 ^ 64
 shards_by log line (entry.Made stream name count) reply s start range h le =
     either_fits (stream == s) _ _ (λ is. omega (arith, length_made count start, range.1)) le
-shards_by log line (entry.Split stream sh at number low high) reply s start range h le =
+shards_by log line (entry.Split stream sh hash number low high) reply s start range h le =
     let a = passes _ _ _ _ reply h in
     let b = passes _ _ _ _ reply a.1 in
     let d = passes _ _ _ _ reply b.1 in
@@ -103,7 +94,7 @@ shards_by log line (entry.Split stream sh at number low high) reply s start rang
       arith,
       room,
       ap (λ k. length (shards log k)) (equal_so stream s is),
-      length_split sh at start (closing_of line number) (shards log s),
+      length_split sh hash start (closing_of line number) (shards log s),
     )) le
 shards_by log line (entry.Merged stream sh other number child) reply s start range h le =
     let a = passes _ _ _ _ reply h in
@@ -121,40 +112,33 @@ shards_by log line (entry.Merged stream sh other number child) reply s start ran
     )) le
 shards_by log line _ reply s start range h le = le
 
--- In a legal journal, each stream has at most 2^64 shards.
+-- A stream of a legal journal has at most 2^64 shards.
 pub shards_fit : (log : Journal) → IsLegal log → (s : ℕ) → length (shards log s) ≤ 2 ^ 64
 shards_fit [] legal s = omega arith
 shards_fit (line ∷ log) legal s =
     shards_by log line line.what legal.0.reply s (next_number (line ∷ log) s) legal.0.in_range legal.0.allowed
     (shards_fit log legal.1 s)
 
--- If a list has a shard at the index `sh`, this index is below the number of shards.
 below_length : (sh : ℕ) (xs : List ShardState) (x : ShardState) → slice_get xs sh ≡ Some x → sh < length xs
 below_length sh [] x h = absurd cc
 below_length zero (y ∷ xs) x h = omega arith
 below_length (suc sh) (y ∷ xs) x h = omega (arith, below_length sh xs x h)
 
--- If a shard is listed, its number is below the number of the stream's shards.
 there_below : (log : Journal) (c s sh : ℕ) (o : Option ShardState) → shard_at log s sh ≡ o
     → is_listed_state log c s o ≡ true → sh < length (shards log s)
 there_below log c s sh None is h = absurd cc
 there_below log c s sh (Some x) is h = below_length sh (shards log s) x is
 
--- In a legal journal, the number of a listed shard fits into 64 bits.
 pub listed_fits : (log : Journal) (c s sh : ℕ) → IsLegal log → is_listed log c s sh ≡ true → sh < 2 ^ 64
 listed_fits log c s sh legal h =
     omega (arith, there_below log c s sh (shard_at log s sh) refl h, shards_fit log legal s)
 
--- Let the shards `xs` be numbered from `n` on, and let `m` be above 0 and at least `n` plus the number of these shards.
--- Then the number of a hash key's home among them is below `m`.
 home_below : (xs : List ShardState) (n k m : ℕ) → AreNumbered n xs → n + length xs ≤ m → 0 < m
     → home_among (filter is_open xs) k < m
 home_below [] n k m numbers le some = some
 home_below (x ∷ xs) n k m numbers le some =
     grind (arith, numbers.0, le, home_below xs (n + 1) k m numbers.1 (omega arith) some)
 
--- If the shards of a stream are numbered from 0 on and are at most 2^64, the number of a hash key's home fits into 64
--- bits.
 pub home_fits : (log : Journal) (s k : ℕ) → AreNumbered 0 (shards log s) → length (shards log s) ≤ 2 ^ 64
     → home log s k < 2 ^ 64
 home_fits log s k numbers le = home_below (shards log s) 0 k (2 ^ 64) numbers (omega arith) (omega arith)

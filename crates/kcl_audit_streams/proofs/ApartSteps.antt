@@ -1,5 +1,4 @@
--- The records of each shard are kept in a list of their own (`AreApart`). A put keeps this right, and the list of a
--- shard is enough to answer the judge's questions about the shard.
+-- One list for each shard stays right after a put and answers all questions about the shard.
 use Rattle.std.proofs.Common.{◌≡◌, ℕ, zero, suc, ◌<◌, Bool, true, false, List, [], ◌∷◌, ◌++◌, length, map, refl}
 use Rattle.std.proofs.Common.{get_or, sym, ap, ◌∙◌, arith}
 use Rattle.std.specs.Prelude.{◌==◌, cond, if◌then◌else◌, slice_set}
@@ -24,30 +23,28 @@ twice_one sh x xs true e h =
     ∙ sym (ap (λ c. cond c (x ∷ filter (is_in sh) (filter (is_in sh) xs)) (filter (is_in sh) (filter (is_in sh) xs))) e)
 twice_one sh x xs false e h = h
 
--- Choosing the records of the shard `sh` twice gives the same as once.
 pub twice : (sh : ℕ) (xs : List Sized) → filter (is_in sh) xs ≡ filter (is_in sh) (filter (is_in sh) xs)
 twice sh [] = refl
 twice sh (x ∷ xs) = twice_one sh x xs (is_in sh x) refl (twice sh xs)
 
--- If `own` are the records of the shard `sh` among `xs`, then the shard has the same records in `own` as in `xs`.
+-- A shard's own list has the shard's records of the whole list.
 pub records_own : (sh : ℕ) (xs own : List Sized) → own ≡ filter (is_in sh) xs → records_in own sh ≡ records_in xs sh
 records_own sh xs own is = ap (λ ys. map logged (filter (is_in sh) ys)) is ∙ ap (map logged) (sym (twice sh xs))
 
-puts_one : (sh : ℕ) (before : List SizedPut) (x : Sized) (xs : List Sized) (b : Bool) → is_in sh x ≡ b
+puts_one : (sh : ℕ) (old : List SizedPut) (x : Sized) (xs : List Sized) (b : Bool) → is_in sh x ≡ b
     → ((ps : List SizedPut) → puts_from ps xs sh ≡ puts_from ps (filter (is_in sh) xs) sh)
-    → puts_from (if b then sized x ∷ before else before) xs sh
-    ≡ puts_from before (cond b (x ∷ filter (is_in sh) xs) (filter (is_in sh) xs)) sh
-puts_one sh before x xs true e h =
-    h (sized x ∷ before)
-    ∙ sym (ap (λ c. puts_from (if c then sized x ∷ before else before) (filter (is_in sh) xs) sh) e)
-puts_one sh before x xs false e h = h before
+    → puts_from (if b then sized x ∷ old else old) xs sh
+    ≡ puts_from old (cond b (x ∷ filter (is_in sh) xs) (filter (is_in sh) xs)) sh
+puts_one sh old x xs true e h =
+    h (sized x ∷ old)
+    ∙ sym (ap (λ c. puts_from (if c then sized x ∷ old else old) (filter (is_in sh) xs) sh) e)
+puts_one sh old x xs false e h = h old
 
-puts_of_own : (sh : ℕ) (xs : List Sized) (before : List SizedPut)
-    → puts_from before xs sh ≡ puts_from before (filter (is_in sh) xs) sh
-puts_of_own sh [] before = refl
-puts_of_own sh (x ∷ xs) before = puts_one sh before x xs (is_in sh x) refl (puts_of_own sh xs)
+puts_of_own : (sh : ℕ) (xs : List Sized) (old : List SizedPut)
+    → puts_from old xs sh ≡ puts_from old (filter (is_in sh) xs) sh
+puts_of_own sh [] old = refl
+puts_of_own sh (x ∷ xs) old = puts_one sh old x xs (is_in sh x) refl (puts_of_own sh xs)
 
--- If `own` are the records of the shard `sh` among `xs`, then the shard has the same puts in `own` as in `xs`.
 pub puts_own : (sh : ℕ) (xs own : List Sized) → own ≡ filter (is_in sh) xs → puts_in own sh ≡ puts_in xs sh
 puts_own sh xs own is = ap (λ ys. puts_in ys sh) is ∙ sym (puts_of_own sh xs [])
 
@@ -88,8 +85,6 @@ put_one shards all item sh false e apart lt =
     other_shard : (n m : ℕ) → (n == m) ≡ false → n ≡ m → ⊥
     other_shard n m e same = grind (arith, nat_tests)
 
--- Let the record `item` be added at the end of `all`, and at the end of the list of its shard, which exists. Then
--- `AreApart` still holds.
 pub apart_put : (shards : List (List Sized)) (all : List Sized) (item : Sized) → AreApart shards all
     → item.shard < length shards
     → AreApart (slice_set shards item.shard (records_at shards item.shard ++ item ∷ [])) (all ++ item ∷ [])
@@ -97,7 +92,6 @@ apart_put shards all item apart lt = λ sh.
     put_one shards all item sh (is_in sh item) refl apart lt
     ∙ sym (filter-append (is_in sh) all (item ∷ []))
 
--- If the index `n` is within the list, reading at this index gives the list of the shard `n`.
 pub at_index : (shards : List (List Sized)) (n : ℕ) (d : List Sized) → n < length shards
     → get_or shards n d ≡ records_at shards n
 at_index [] n d lt = absurd (omega arith)

@@ -1,5 +1,4 @@
--- The judge looks for the first untrimmed record that arrived at or after a moment. If the records are in the order of
--- their arrival, it may skip those that arrived too early.
+-- The search for a first arrival may skip the records that arrived too early.
 use Rattle.std.proofs.Common.{◌≡◌, ℕ, zero, suc, ◌-◌, ◌<◌, ◌≤◌, Bool, true, false, List, [], ◌∷◌, length, get_or, max}
 use Rattle.std.proofs.Common.{drop, take, refl, sym, ap, ◌∙◌, arith, ltb-true}
 use Rattle.std.specs.Prelude.{nat_le, nat_lt, cond, ◌&&◌}
@@ -11,8 +10,7 @@ use Rattle.kcl_audit_streams.specs.declared.records.Sized.{Sized}
 use Rattle.kcl_audit_streams.specs.Standing.{is_in, logged}
 use Rattle.kcl_audit_streams.proofs.BatchSteps.{left_by, left_in}
 
--- The sequence number of the first of `xs` that is one of the shard `sh`, is untrimmed, and arrived at or after the
--- moment. It is `otherwise` if there is no such record.
+-- The first untrimmed record of the shard that arrived at or after the moment, or `otherwise`.
 abbrev first_in : ℕ → ℕ → ℕ → ℕ → List Sized → ℕ
 first_in sh floor moment otherwise xs = first_at (left_in sh floor 0 xs) moment otherwise
 
@@ -24,12 +22,10 @@ skipped true false c r rs moment otherwise e never = refl
 skipped true true false r rs moment otherwise e never = rw e refl
 skipped true true true r rs moment otherwise e never = absurd (never refl refl)
 
--- No record that arrived before the floor or before the moment is untrimmed and arrived at or after the moment.
 too_early : (floor moment : ℕ) (x : Sized) → x.arrival < max floor moment → is_left floor 0 (logged x) ≡ true
     → nat_le moment x.arrival ≡ true → ⊥
 too_early floor moment x lt left le = grind (arith, nat_tests)
 
--- A record that arrived before the floor or before the moment isn't the one that `first_in` finds.
 past_one : (sh floor moment otherwise : ℕ) (x : Sized) (xs : List Sized) → x.arrival < max floor moment
     → first_in sh floor moment otherwise (x ∷ xs) ≡ first_in sh floor moment otherwise xs
 past_one sh floor moment otherwise x xs lt =
@@ -38,8 +34,6 @@ past_one sh floor moment otherwise x xs lt =
     ∙ skipped (is_in sh x) (is_left floor 0 (logged x)) (nat_le moment x.arrival) (logged x) (left_in sh floor 0 xs)
     moment otherwise refl (too_early floor moment x lt)
 
--- If each of the first `i` records arrived before the floor or before the moment, `first_in` finds the same without
--- them.
 first_behind : (sh floor moment otherwise : ℕ) (xs : List Sized) (i : ℕ)
     → ((k : ℕ) (d : Sized) → k < i → k < length xs → (get_or xs k d).arrival < max floor moment)
     → first_in sh floor moment otherwise (drop i xs) ≡ first_in sh floor moment otherwise xs
@@ -49,8 +43,6 @@ first_behind sh floor moment otherwise (x ∷ xs) (suc i) h =
     first_behind sh floor moment otherwise xs i (λ k d low lt. h (suc k) d (omega arith) (omega arith))
     ∙ sym (past_one sh floor moment otherwise x xs (h 0 x (omega arith) (omega arith)))
 
--- Let `least` be the greater of the floor and the moment. Let the records before the index `i`, and no others, have
--- arrived before `least`. Then `first_in` finds the same among the records from `i` on as among all records.
 pub first_from : (sh floor moment otherwise least : ℕ) (xs : List Sized) (i : ℕ) → max floor moment ≡ least
     → IsPartitionPoint (λ (y : Sized). nat_lt y.arrival least ≡ true)
     (λ (y : Sized). nat_lt y.arrival least ≡ false) xs i

@@ -1,6 +1,4 @@
--- The sequence numbers of a batch can be collected by going over the records one by one. A record of the shard is left
--- if it is untrimmed and its sequence number is at or above the position. It is untrimmed if it arrived at or after the
--- trim floor, which is a time.
+-- A batch's sequence numbers are collected record by record.
 use Rattle.std.proofs.Common.{◌≡◌, ℕ, zero, suc, ◌+◌, ◌-◌, ◌<◌, ◌≤◌, Bool, true, List, [], ◌∷◌, ◌++◌, length, get_or}
 use Rattle.std.proofs.Common.{drop, refl, sym, ap, ◌∙◌, arith}
 use Rattle.std.specs.Prelude.{◌==◌, ◌&&◌, cond}
@@ -12,29 +10,24 @@ use Rattle.kds_defs.proofs.Batches.{beginning_one, beginning_none}
 use Rattle.kcl_audit_streams.specs.declared.records.Sized.{Sized}
 use Rattle.kcl_audit_streams.specs.Standing.{is_in, logged, records_in}
 
--- Whether the record `x` is one of the shard `sh` and is left: it is untrimmed, and at or above the position.
+-- Whether the record is of the shard, untrimmed, and at or above the position.
 abbrev pub counts : ℕ → ℕ → ℕ → Sized → Bool
 counts sh floor position x = (x.shard == sh) && is_left floor position (logged x)
 
--- Of the records `xs`, those of the shard `sh` that are left (untrimmed, and at or above the position).
+-- The shard's records that are untrimmed and at or above the position.
 abbrev pub left_in : ℕ → ℕ → ℕ → List Sized → List Logged
 left_in sh floor position xs = left_among floor position (records_in xs sh)
 
--- What is left of a list that begins with the record `x`: first `x`, if it is one of the shard (`a`) and is left (`b`),
--- and then what is left of `xs`.
 pub left_by : (sh floor position : ℕ) (x : Sized) (xs : List Sized) (a b : Bool) → is_in sh x ≡ a
     → is_left floor position (logged x) ≡ b
     → left_in sh floor position (x ∷ xs)
     ≡ cond (a && b) (logged x ∷ left_in sh floor position xs) (left_in sh floor position xs)
 left_by sh floor position x xs a b e f = grind (arith, e, f)
 
--- Of the records of `xs` from the index `i` on, those of the shard `sh` that are left (untrimmed, and at or above the
--- position).
+-- What is left of the shard from the index `i` on.
 abbrev pub ahead : ℕ → ℕ → ℕ → List Sized → ℕ → List Logged
 ahead sh floor position xs i = left_in sh floor position (drop i xs)
 
--- What is left from the index `i` on: first the record `x` at this index, if it counts (`b`), and then what is left
--- from the next index on.
 pub ahead_more : (sh floor position : ℕ) (xs : List Sized) (i : ℕ) (x : Sized) (b : Bool) → i < length xs
     → x ≡ get_or xs i x → counts sh floor position x ≡ b
     → ahead sh floor position xs i
@@ -45,15 +38,12 @@ ahead_more sh floor position xs i x b lt is t =
     ∙ left_by sh floor position x (drop (i + 1) xs) (is_in sh x) (is_left floor position (logged x)) refl refl
     ∙ ap (λ (c : Bool). cond c (logged x ∷ ahead sh floor position xs (i + 1)) (ahead sh floor position xs (i + 1))) t
 
--- The list `whole` is `numbers` followed by the sequence numbers of the batch from `rest` that has at most `left`
--- records and at most `room` bytes.
+-- `numbers`, then the batch from `rest` within `left` records and `room` bytes, are `whole`.
 abbrev pub Grows : List ℕ → ℕ → ℕ → List Logged → List ℕ → Type 0
 Grows numbers left room rest whole = numbers ++ numbers_of (beginning left room rest) ≡ whole
 
 module _ (sh floor position : ℕ) (xs : List Sized) (i : ℕ) (x : Sized) (within : i < length xs)
     (is : x ≡ get_or xs i x) where
-  -- `Grows` still holds after the record `x` at the index `i` was taken into the batch, if it counts and there is room
-  -- for it.
   pub grows_by : (numbers : List ℕ) (left room : ℕ) (whole : List ℕ) → counts sh floor position x ≡ true
       → (left ≡ 0 → ⊥) → x.bytes ≤ room
       → Grows numbers left room (ahead sh floor position xs i) whole
@@ -67,7 +57,6 @@ module _ (sh floor position : ℕ) (xs : List Sized) (i : ℕ) (x : Sized) (with
       append_assoc numbers (x.seq ∷ []) (numbers_of (beginning (left - 1) (room - x.bytes) rest))
       ∙ ap (λ taken. numbers ++ numbers_of taken) (sym one) ∙ h
 
--- If there is no record at the index `i` or after it, the numbers so far are those of the whole batch.
 pub grows_all : (sh floor position : ℕ) (xs : List Sized) (i : ℕ) (numbers : List ℕ) (left room : ℕ) (whole : List ℕ)
     → length xs ≤ i
     → Grows numbers left room (ahead sh floor position xs i) whole → numbers ≡ whole
@@ -79,11 +68,11 @@ grows_all sh floor position xs i numbers left room whole le h =
 
 -- ---- The sequence numbers of a batch are below a bound
 
--- The sequence numbers of the records `rs`, as the model has them, are below `top`.
+-- The model's sequence numbers are below `top`.
 abbrev pub AreBelow : ℕ → List Sized → Type 0
 AreBelow top rs = AllByRecursion (λ (r : Sized). r.seq < top) rs
 
--- The sequence numbers of the records `rs` are below `top`.
+-- The sequence numbers are below `top`.
 abbrev pub below : ℕ → List Logged → Type 0
 below top rs = AllByRecursion (λ (r : Logged). r.seq < top) rs
 
@@ -91,11 +80,9 @@ below_in : (top sh : ℕ) (rs : List Sized) → AreBelow top rs → below top (r
 below_in top sh [] h = tt
 below_in top sh (r ∷ rs) h = grind (arith, below_in top sh rs h.1)
 
--- If the sequence numbers of all records are below `top`, so are those of the records that are left.
 pub below_left : (top floor position : ℕ) (rs : List Logged) → below top rs → below top (left_among floor position rs)
 below_left top floor position rs h = all_filter (λ (r : Logged). r.seq < top) (is_left floor position) rs h
 
--- If the sequence numbers of all records are below `top`, so are those of each batch of them.
 pub below_beginning : (top limit room : ℕ) (rs : List Logged) → below top rs → below top (beginning limit room rs)
 below_beginning top zero room rs h = tt
 below_beginning top (suc limit) room [] h = tt
@@ -105,7 +92,6 @@ below_numbers : (top : ℕ) (rs : List Logged) → below top rs → AllByRecursi
 below_numbers top [] h = tt
 below_numbers top (r ∷ rs) h = (h.0, below_numbers top rs h.1)
 
--- If the sequence numbers of all records of the model are below `top`, so are those in the batch of a shard.
 pub batch_below : (top sh floor position limit room : ℕ) (rs : List Sized) → AreBelow top rs
     → AllByRecursion (λ n. n < top) (numbers_of (beginning limit room (left_among floor position (records_in rs sh))))
 batch_below top sh floor position limit room rs h =

@@ -1,5 +1,4 @@
--- What a read of a shard gives in the journal can be computed from the judge's model of its stream: the batch, whether
--- the shard ends, and the position where reading begins.
+-- A read in the journal follows from the model: the batch, the shard's end, and the starting position.
 use Rattle.std.proofs.Common.{◌≡◌, ℕ, ◌≤◌, Bool, true, List, [], map, slice_get, refl, sym, ap, ◌∙◌}
 use Rattle.std.specs.Prelude.{◌&&◌, if◌then◌else◌}
 use Rattle.kds_defs.specs.declared.limits.TheConstants.{BATCH_BYTES}
@@ -20,8 +19,6 @@ use Rattle.kcl_audit_streams.specs.Standing.{IsStream, StreamValue, floor_in, re
 
 -- ---- The shard of a live stream
 
--- Without their keys and payloads, the records of the journal that are left in a shard are those that are left in the
--- model.
 left_is : (log : Journal) (c s sh p : ℕ) (v : StreamValue) → IsStream log s v → v.live ≡ true → last_clock log ≤ c
     → map bare (left_from log c s sh p) ≡ left_among (floor_in v c) p (records_in v.records sh)
 left_is log c s sh p v st live order =
@@ -31,8 +28,6 @@ left_is log c s sh p v st live order =
     ∙ ap (λ f. left_among f p (map bare (records log s sh))) (st.trims c order)
     ∙ ap (left_among (floor_in v c) p) (st.records_are sh)
 
--- The sequence numbers of the batch in the journal are those of the batch that is taken from the model `v` of the
--- stream.
 pub batch_is : (log : Journal) (c s sh p limit : ℕ) (v : StreamValue) → IsStream log s v → v.live ≡ true
     → last_clock log ≤ c
     → numbers_of (batch log c s sh p limit)
@@ -42,8 +37,6 @@ batch_is log c s sh p limit v st live order =
     ∙ ap numbers_of (beginning_bare limit BATCH_BYTES (left_from log c s sh p))
     ∙ ap (λ rs. numbers_of (beginning limit BATCH_BYTES rs)) (left_is log c s sh p v st live order)
 
--- In the journal, the shard ends at `position` exactly if in the model it is closed and nothing is left from `position`
--- on.
 pub ends_is : (log : Journal) (c s sh position : ℕ) (v : StreamValue) → IsStream log s v → v.live ≡ true
     → last_clock log ≤ c
     → ends_at log c s sh position
@@ -56,10 +49,10 @@ ends_is log c s sh position v st live order =
 
 -- ---- Where reading begins
 
--- The position where reading begins from an origin is the same in the journal as in the model `v` of the live stream.
-pub position_is : (log : Journal) (c : ℕ) (key : ShardRef) (from : Origin) (v : StreamValue) → IsStream log key.stream v
+pub position_is : (log : Journal) (c : ℕ) (key : ShardRef) (start : Origin) (v : StreamValue)
+    → IsStream log key.stream v
     → v.live ≡ true → last_clock log ≤ c
-    → position_in v c key.shard from ≡ origin_position log c key from
+    → position_in v c key.shard start ≡ origin_position log c key start
 position_is log c key origin.TrimHorizon v st live order = refl
 position_is log c key origin.Latest v st live order = sym st.draws
 position_is log c key (origin.Time moment) v st live order =

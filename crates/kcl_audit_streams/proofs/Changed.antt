@@ -1,4 +1,4 @@
--- The stream of a good entry is live, and is the one that the judge reads and changes in its list of streams.
+-- A good entry's stream is live, and is the one that the judge reads and changes.
 use Rattle.std.proofs.Common.{◌≡◌, ◌≢◌, ℕ, zero, suc, ◌-◌, ◌≤◌, Bool, true, false, List, [], ◌∷◌, slice_get, slice_set}
 use Rattle.std.proofs.Common.{slice_index_or, Option, Some, None, refl, sym, ap, ◌∙◌, arith}
 use Rattle.std.specs.Prelude.{if◌then◌else◌, Result, Ok, Err, OnOk}
@@ -14,8 +14,7 @@ use Rattle.kcl_audit_streams.specs.Verdict.{Verdict}
 
 -- ---- The stream of a good entry
 
--- The list `vs` has a stream with the number `s`, which is at least 1. The stream is live, and the verdict `f` on it is
--- Ok.
+-- The stream `s` exists and is live, and the verdict on it is Ok.
 pub record IsOf (vs : List StreamValue) (s : ℕ) (f : StreamValue → Verdict) : Type 0 where
   pub value : StreamValue
   pub some : 1 ≤ s
@@ -35,7 +34,6 @@ by_index : (vs : List StreamValue) (i : ℕ) (f : StreamValue → Verdict) (o : 
 by_index vs i f None is good = absurd cc
 by_index vs i f (Some v) is good = by_state vs i f v v.live is refl good
 
--- If the verdict on the live stream with the number `s` is Ok, then this stream exists (`IsOf`).
 pub is_of : (vs : List StreamValue) (s : ℕ) (f : StreamValue → Verdict) → in_live (live_at vs s) f ≡ Ok tt → IsOf vs s f
 is_of vs zero f good = absurd cc
 is_of vs (suc i) f good = by_index vs i f (slice_get vs i) refl good
@@ -48,21 +46,17 @@ changed_get [] i g v is = absurd cc
 changed_get (u ∷ vs) zero g v is = let same : u ≡ v = cc in ap (λ (x : StreamValue). g x ∷ vs) (sym same)
 changed_get (u ∷ vs) (suc i) g v is = ap (λ xs. u ∷ xs) (changed_get vs i g v is)
 
--- In this module, the verdict `f` on the live stream with the number `s` is Ok, and `old` is the stream that is read
--- from the list.
+-- The verdict `f` on the live stream `s` is Ok, and `old` is the stream that is read.
 module _ (vs : List StreamValue) (s : ℕ) (f : StreamValue → Verdict) (good : in_live (live_at vs s) f ≡ Ok tt) (i : ℕ)
     (is : i ≡ s) where
   module _ (old : StreamValue) (read : old ≡ slice_index_or vs (i - 1) old) where
-    -- The stream that is read is the one with the number `s`.
     same_value : old ≡ (is_of vs s f good).value
     same_value = let o = is_of vs s f good in
         read ∙ get_or_from_slice_get vs (i - 1) o.value old (ap (λ n. slice_get vs (n - 1)) is ∙ o.at)
 
-    -- The verdict on the stream that is read is Ok.
     pub good_there : f old ≡ Ok tt
     good_there = let o = is_of vs s f good in ap f same_value ∙ o.good
 
-    -- Writing the changed stream back gives the list with `g` applied to the stream with the number `s`.
     pub changed_there : (g : StreamValue → StreamValue) (new : StreamValue) → new ≡ g old
         → slice_set vs (i - 1) new ≡ changed_at (s - 1) g vs
     changed_there g new e =
@@ -71,8 +65,6 @@ module _ (vs : List StreamValue) (s : ℕ) (f : StreamValue → Verdict) (good :
         ∙ ap (slice_set vs (s - 1)) (e ∙ ap g same_value)
         ∙ changed_get vs (s - 1) g o.value o.at
 
-    -- Let a call return Ok and apply `g` to the stream that was read. Then writing the stream back gives the list with
-    -- `g` applied to the stream with the number `s`. If the call failed, nothing is claimed.
     pub changed_if : {E : Type 0} (r : Result (Unit {0}) E) (g : StreamValue → StreamValue) (new : StreamValue)
         → OnOk r (new ≡ g old) → OnOk r (slice_set vs (i - 1) new ≡ changed_at (s - 1) g vs)
     changed_if (Ok u) g new e = changed_there g new e
@@ -80,29 +72,24 @@ module _ (vs : List StreamValue) (s : ℕ) (f : StreamValue → Verdict) (good :
 
 -- ---- What follows from a good entry
 
--- If the verdict `agrees b` is Ok, then `b` is true: the command leads to the entry.
 pub agrees_so : (b : Bool) → agrees b ≡ Ok tt → b ≡ true
 agrees_so true h = refl
 agrees_so false h = absurd cc
 
--- If a verdict that first looks at a possible refusal `o` is Ok, then there is no refusal, and the rest of the verdict
--- (`next`) is Ok.
 pub past_by : (o : Option Refusal) (next : Verdict) → refused_by o next ≡ Ok tt → (o ≡ None) × (next ≡ Ok tt)
 past_by (Some r) next h = absurd cc
 past_by None next h = (refl, h)
 
--- The sequence number `number` is the next one of the stream `v`, and isn't the last possible one.
+-- `number` is the stream's next sequence number, and not the last possible one.
 abbrev pub Draws : StreamValue → ℕ → Type 0
 Draws v number = (number ≡ v.next) × (v.next ≢ last_number)
 
--- A good split has no refusal by the stream's shards, and takes the stream's next sequence number (`Draws`). `full`
--- says whether no further shard may be open.
-pub split_draws : (v : StreamValue) (clock sh at : ℕ) (full : Bool) (number low high : ℕ)
-    → split_verdict v clock sh at full number low high ≡ Ok tt → (split_refusal v.tree sh at ≡ None) × Draws v number
-split_draws v clock sh at full number low high h =
+pub split_draws : (v : StreamValue) (clock sh hash : ℕ) (full : Bool) (number low high : ℕ)
+    → split_verdict v clock sh hash full number low high ≡ Ok tt → (split_refusal v.tree sh hash ≡ None)
+    × Draws v number
+split_draws v clock sh hash full number low high h =
     (grind (arith, nat_tests, h), (grind (arith, nat_tests, h), grind (arith, nat_tests, h)))
 
--- A good merge has no refusal by the stream's shards, and takes the stream's next sequence number (`Draws`).
 pub merge_draws : (v : StreamValue) (clock sh other number child : ℕ)
     → merge_verdict v clock sh other number child ≡ Ok tt → (merge_refusal v.tree sh other ≡ None) × Draws v number
 merge_draws v clock sh other number child h =

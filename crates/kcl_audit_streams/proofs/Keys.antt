@@ -1,5 +1,4 @@
--- If the judge's model represents a journal (`Shows`), what it finds for a key is what the journal says: the stream,
--- whether the shard is listed, and the shard.
+-- What a model finds for a key is what the journal says.
 use Rattle.std.proofs.Common.{◌≡◌, ℕ, zero, suc, ◌+◌, ◌≤◌, Bool, true, false, List, [], ◌∷◌, length, slice_get, Option}
 use Rattle.std.proofs.Common.{Some, None, refl, sym, ap}
 use Rattle.std.proofs.Common.{subst, ◌∙◌, arith}
@@ -15,46 +14,37 @@ use Rattle.kcl_audit_streams.specs.Standing.{AreStreams, IsStream, Shows, Stream
 use Rattle.kcl_audit_streams.specs.Standing.{is_listed_in, live_at, lists, stream_at}
 use Rattle.kcl_audit_streams.proofs.StreamTold.{listed_is}
 
--- If the list has the models of all streams from the number `n` on, the stream at the index `i` is the model of the
--- stream with the number `n + i`.
 pub stream_get : (log : Journal) (n i : ℕ) (vs : List StreamValue) (v : StreamValue) → AreStreams log n vs
     → slice_get vs i ≡ Some v → IsStream log (n + i) v
 stream_get log n i [] v h is = absurd cc
 stream_get log n zero (u ∷ vs) v h is =
     let same : u ≡ v = cc in
-    let at : n ≡ n + 0 = omega arith in
-    subst (λ m. IsStream log m v) at (subst (λ (x : StreamValue). IsStream log n x) same h.0)
+    let is_at : n ≡ n + 0 = omega arith in
+    subst (λ m. IsStream log m v) is_at (subst (λ (x : StreamValue). IsStream log n x) same h.0)
 stream_get log n (suc i) (u ∷ vs) v h is =
-    let at : n + 1 + i ≡ n + suc i = omega arith in
-    subst (λ m. IsStream log m v) at (stream_get log (n + 1) i vs v h.1 is)
+    let is_at : n + 1 + i ≡ n + suc i = omega arith in
+    subst (λ m. IsStream log m v) is_at (stream_get log (n + 1) i vs v h.1 is)
 
--- If a list has nothing at an index, the index is at or above its length.
 get_none : (i : ℕ) (vs : List StreamValue) → slice_get vs i ≡ None → length vs ≤ i
 get_none i [] h = omega arith
 get_none zero (v ∷ vs) h = absurd cc
 get_none (suc i) (v ∷ vs) h = let r = get_none i vs h in omega arith
 
--- If the model has a stream `v` with the number `s`, then `v` is the model of the journal's stream with this number
--- (`IsStream`).
 pub stream_found : (w : StreamsValue) (log : Journal) (s : ℕ) (v : StreamValue) → Shows w log
     → stream_at w.streams s ≡ Some v → IsStream log s v
 stream_found w log zero v sh is = absurd cc
 stream_found w log (suc i) v sh is =
-    let at : 1 + i ≡ suc i = omega arith in
-    subst (λ m. IsStream log m v) at (stream_get log 1 i w.streams v sh.all.streams is)
+    let is_at : 1 + i ≡ suc i = omega arith in
+    subst (λ m. IsStream log m v) is_at (stream_get log 1 i w.streams v sh.all.streams is)
 
--- If the model has no stream with the number `s`, the journal says nothing of this number.
 pub stream_none : (w : StreamsValue) (log : Journal) (s : ℕ) → Shows w log → stream_at w.streams s ≡ None
     → IsFresh log s
 stream_none w log zero sh is = sh.all.none
 stream_none w log (suc i) sh is = let r = get_none i w.streams is in sh.all.others (suc i) (omega arith)
 
--- If the journal says nothing of the number `s`, no shard of a stream with this number is listed.
 unmade_unlisted : (log : Journal) (c s sh : ℕ) → IsFresh log s → is_listed log c s sh ≡ false
 unmade_unlisted log c s sh un = ap (λ (xs : List ShardState). is_listed_state log c s (slice_get xs sh)) un.no_shards
 
--- Whether a shard is listed doesn't depend on where its stream `v` is looked up: among the live streams alone, or among
--- all streams. `b` says whether `v` is live.
 gone_unlisted : (w : StreamsValue) (key : ShardRef) (v : StreamValue) (b : Bool) → v.live ≡ b
     → is_listed_in (if b then Some v else None) w.clock key.shard ≡ is_listed_in (Some v) w.clock key.shard
 gone_unlisted w key v true live = refl
@@ -69,14 +59,13 @@ listed_by w log key (Some v) sh is =
     gone_unlisted w key v v.live refl
     ∙ sym (listed_is log w.clock key.stream key.shard v (stream_found w log key.stream v sh is) sh.order)
 
--- The model lists the shard of a key exactly if the journal does.
 pub listed_key : (w : StreamsValue) (log : Journal) (key : ShardRef) → Shows w log
     → lists w key ≡ is_listed_key log w.clock key
 listed_key w log key sh = listed_by w log key (stream_at w.streams key.stream) sh refl
 
 -- ---- The shard of a key
 
--- The shard with the number `sh` of the stream that was found, if there is one.
+-- The shard of the stream, if both exist.
 abbrev pub shard_of : Option StreamValue → ℕ → Option ShardState
 shard_of None sh = None
 shard_of (Some v) sh = slice_get v.tree sh
@@ -93,23 +82,19 @@ shard_by : (w : StreamsValue) (log : Journal) (key : ShardRef) (o : Option Strea
 shard_by w log key None sh is = rw (stream_none w log key.stream sh is).gone refl
 shard_by w log key (Some v) sh is = state_by log key v v.live (stream_found w log key.stream v sh is) refl
 
--- The shard of a key in a live stream of the model is the one of the journal.
 pub shard_key : (w : StreamsValue) (log : Journal) (key : ShardRef) → Shows w log
     → shard_of (live_at w.streams key.stream) key.shard ≡ live_shard log key
 shard_key w log key sh = shard_by w log key (stream_at w.streams key.stream) sh refl
 
--- The case of `live_found` for a stream `u`, where `b` says whether it is live.
 live_by : (u v : StreamValue) (b : Bool) → u.live ≡ b → (if b then Some u else None) ≡ Some v → (Some u ≡ Some v)
     × (v.live ≡ true)
 live_by u v true is h = let same : u ≡ v = cc in (h, ap (λ (x : StreamValue). x.live) (sym same) ∙ is)
 live_by u v false is h = absurd cc
 
--- A stream that is found among the live ones was found among all streams, and is live.
 pub live_found : (o : Option StreamValue) (v : StreamValue) → if_live o ≡ Some v → (o ≡ Some v) × (v.live ≡ true)
 live_found None v h = absurd cc
 live_found (Some u) v h = live_by u v u.live refl h
 
--- For a live stream, the shard as it is shown is the one found in the model.
 pub shown_live : (v : StreamValue) (sh : ℕ) → v.live ≡ true
     → (if v.live then option_map shown (slice_get v.tree sh) else None) ≡ option_map shown (shard_of (Some v) sh)
 shown_live v sh live = rw live refl

@@ -1,5 +1,4 @@
--- The numbers of the live streams (`live_numbers`) are enough to answer the judge's questions about all streams. The
--- lemmas also say how an entry changes these numbers.
+-- The live streams' numbers answer the judge's questions about all streams, and how entries change them.
 use Rattle.std.proofs.Common.{◌≡◌, ℕ, zero, suc, ◌+◌, ◌<◌, Bool, true, false, List, [], ◌∷◌, ◌++◌, length, slice_get}
 use Rattle.std.proofs.Common.{Option, Some, None, refl, sym, ap, ◌∙◌, arith}
 use Rattle.std.specs.Prelude.{◌==◌, ◌&&◌, ◌||◌, not, if◌then◌else◌}
@@ -13,10 +12,10 @@ use Rattle.kds_defs.specs.Streams.{same_name}
 use Rattle.kcl_audit_streams.specs.Judging.{changed_at, is_named, live_count, open_in, with_entry, with_gone}
 use Rattle.kcl_audit_streams.specs.Living.{has_name, is_deletion, is_named_among, live_numbers, open_among, open_of}
 use Rattle.kcl_audit_streams.specs.Standing.{StreamValue, if_live, live_at, stream_at}
+use Rattle.kcl_laws.proofs.ScalingLemmas.{apart_from}
 
 -- ---- The streams with the numbers from n on
 
--- The streams of `us` from the number `n` on are `vs`.
 At : List StreamValue → ℕ → List StreamValue → Type 0
 At us n vs = (i : ℕ) → stream_at us (n + i) ≡ slice_get vs i
 
@@ -57,7 +56,6 @@ named_from us n [] name h = refl
 named_from us n (v ∷ vs) name h =
     named_by us n v vs name v.live refl h (named_from us (n + 1) vs name (at_tail us n v vs h))
 
--- A live stream has the name `name` exactly if a stream with a number in `live_numbers` has this name.
 pub named_live : (vs : List StreamValue) (name : List ℕ) → is_named_among vs name (live_numbers 1 vs) ≡ is_named vs name
 named_live vs name = named_from vs 1 vs name (at_all vs)
 
@@ -81,7 +79,6 @@ open_from : (us : List StreamValue) (n : ℕ) (vs : List StreamValue) → At us 
 open_from us n [] h = refl
 open_from us n (v ∷ vs) h = open_by us n v vs v.live refl h (open_from us (n + 1) vs (at_tail us n v vs h))
 
--- The number of open shards of all live streams is that of the streams with the numbers in `live_numbers`.
 pub open_live : (vs : List StreamValue) → open_among vs (live_numbers 1 vs) ≡ open_in vs
 open_live vs = open_from vs 1 vs (at_all vs)
 
@@ -92,7 +89,6 @@ count_by : (n : ℕ) (vs : List StreamValue) (b : Bool) → length (live_numbers
 count_by n vs true rest = omega arith
 count_by n vs false rest = rest ∙ none_more (live_count vs)
 
--- There are as many numbers in `live_numbers` as live streams.
 pub count_live : (n : ℕ) (vs : List StreamValue) → length (live_numbers n vs) ≡ live_count vs
 count_live n [] = refl
 count_live n (v ∷ vs) = count_by n vs v.live (count_live (n + 1) vs)
@@ -104,30 +100,25 @@ made_by : (n : ℕ) (us : List StreamValue) (b : Bool) (xs ys : List ℕ) (m k :
 made_by n us true xs ys m k e h = ap (λ (zs : List ℕ). n ∷ zs) h ∙ ap (λ (q : ℕ). n ∷ (xs ++ q ∷ [])) e
 made_by n us false xs ys m k e h = h ∙ ap (λ (q : ℕ). xs ++ q ∷ []) e
 
--- If a live stream is added at the end, its number is added at the end of `live_numbers`.
 pub made_live : (n : ℕ) (us : List StreamValue) (v : StreamValue) → v.live ≡ true
     → live_numbers n (us ++ v ∷ []) ≡ live_numbers n us ++ (n + length us) ∷ []
 made_live n [] v e = (let z : n ≡ n + 0 = omega arith in (λ i. if e i then n ∷ [] else []) ∙ ap (λ (m : ℕ). m ∷ []) z)
 made_live n (u ∷ us) v e =
-    let at : n + 1 + length us ≡ n + suc (length us) = omega arith in
+    let is_at : n + 1 + length us ≡ n + suc (length us) = omega arith in
     made_by n us u.live (live_numbers (n + 1) us) (live_numbers (n + 1) (us ++ v ∷ []))
-    _ _ at (made_live (n + 1) us v e)
+    _ _ is_at (made_live (n + 1) us v e)
 
 -- ---- One stream changes
 
--- If the change `g` doesn't change whether a stream is live, the numbers of the live streams stay the same.
 pub same_live : (n p : ℕ) (g : StreamValue → StreamValue) (vs : List StreamValue)
     → ((v : StreamValue) → (g v).live ≡ v.live) → live_numbers n (changed_at p g vs) ≡ live_numbers n vs
 same_live n p g [] h = refl
 same_live n zero g (v ∷ vs) h = λ i. if h v i then n ∷ live_numbers (n + 1) vs else live_numbers (n + 1) vs
 same_live n (suc p) g (v ∷ vs) h = ap (λ (xs : List ℕ). if v.live then n ∷ xs else xs) (same_live (n + 1) p g vs h)
 
--- The numbers `ns` without `q`.
+-- The numbers without `q`.
 abbrev but : ℕ → List ℕ → List ℕ
 but q ns = filter (λ n. not (n == q)) ns
-
-other : (n q : ℕ) → q < n → not (n == q) ≡ true
-other n q lt = grind (arith, nat_tests)
 
 other_below : (n q : ℕ) → n < q → not (n == q) ≡ true
 other_below n q lt = grind (arith, nat_tests)
@@ -141,11 +132,10 @@ kept_by : (n q : ℕ) (ns : List ℕ) (b : Bool) → not (n == q) ≡ true → b
 kept_by n q ns true e h = but_head n q ns true e ∙ ap (λ (ms : List ℕ). n ∷ ms) h
 kept_by n q ns false e h = h
 
--- If all numbers are above `q`, taking out `q` changes nothing.
 but_above : (q n : ℕ) (vs : List StreamValue) → q < n → but q (live_numbers n vs) ≡ live_numbers n vs
 but_above q n [] lt = refl
 but_above q n (v ∷ vs) lt =
-    kept_by n q (live_numbers (n + 1) vs) v.live (other n q lt) (but_above q (n + 1) vs (omega arith))
+    kept_by n q (live_numbers (n + 1) vs) v.live (apart_from n q lt) (but_above q (n + 1) vs (omega arith))
 
 gone_by : (n q : ℕ) (ns : List ℕ) (b : Bool) → q ≡ n → but q ns ≡ ns → ns ≡ but q (if b then n ∷ ns else ns)
 gone_by n q ns true e h = sym (but_head n q ns false (ap (λ (m : ℕ). not (n == m)) e ∙ ap not (is_itself n)) ∙ h)
@@ -156,7 +146,6 @@ past_by : (n q : ℕ) (ns ms : List ℕ) (b : Bool) → not (n == q) ≡ true �
 past_by n q ns ms true e h = ap (λ (ks : List ℕ). n ∷ ks) h ∙ sym (but_head n q ns true e)
 past_by n q ns ms false e h = h
 
--- If the stream at the index `p` is deleted, its number `q` is taken out of the numbers of the live streams.
 pub gone_live : (n p q : ℕ) (vs : List StreamValue) → q ≡ n + p
     → live_numbers n (changed_at p with_gone vs) ≡ but q (live_numbers n vs)
 gone_live n p q [] e = refl
@@ -169,24 +158,21 @@ gone_live n (suc p) q (v ∷ vs) e =
 
 -- ---- An entry
 
--- An entry that isn't a deletion doesn't change whether a stream is live.
-stays : (clock : ℕ) (what : Entry) → is_deletion what ≡ false → (v : StreamValue)
-    → (with_entry clock what v).live ≡ v.live
+stays : (clock : ℕ) (change : Entry) → is_deletion change ≡ false → (v : StreamValue)
+    → (with_entry clock change v).live ≡ v.live
 stays clock (entry.Gone s) h v = absurd cc
 stays clock (entry.Put s sh number hash bytes key_bytes) h v = refl
-stays clock (entry.Split s sh at number low high) h v = refl
+stays clock (entry.Split s sh key_hash number low high) h v = refl
 stays clock (entry.Merged s sh other number child) h v = refl
 stays clock (entry.Kept s hours) h v = refl
-stays clock (entry.Enforced s on) h v = refl
+stays clock (entry.Enforced s is_on) h v = refl
 stays clock _ h v = refl
 
--- If an entry of a stream doesn't delete this stream, the numbers of the live streams stay the same.
-pub later_live : (clock p : ℕ) (what : Entry) (vs : List StreamValue) → is_deletion what ≡ false
-    → live_numbers 1 (changed_at p (with_entry clock what) vs) ≡ live_numbers 1 vs
-later_live clock p what vs h = same_live 1 p (with_entry clock what) vs (stays clock what h)
+pub later_live : (clock p : ℕ) (change : Entry) (vs : List StreamValue) → is_deletion change ≡ false
+    → live_numbers 1 (changed_at p (with_entry clock change) vs) ≡ live_numbers 1 vs
+later_live clock p change vs h = same_live 1 p (with_entry clock change) vs (stays clock change h)
 
--- If the entry deletes the stream at the index `p`, its number `q` is taken out of the numbers of the live streams.
-pub deleted_live : (clock p q : ℕ) (what : Entry) (vs : List StreamValue) → is_deletion what ≡ true → q ≡ 1 + p
-    → live_numbers 1 (changed_at p (with_entry clock what) vs) ≡ filter (λ n. not (n == q)) (live_numbers 1 vs)
+pub deleted_live : (clock p q : ℕ) (change : Entry) (vs : List StreamValue) → is_deletion change ≡ true → q ≡ 1 + p
+    → live_numbers 1 (changed_at p (with_entry clock change) vs) ≡ filter (λ n. not (n == q)) (live_numbers 1 vs)
 deleted_live clock p q (entry.Gone s) vs h e = gone_live 1 p q vs e
 deleted_live clock p q _ vs h e = absurd cc

@@ -1,5 +1,4 @@
--- The judge looks for the records of a shard that are left: untrimmed, and at or above a position. It may skip the
--- records below the position, since the records are in the order of their sequence numbers.
+-- The search for records left may skip those below the position, which come first.
 use Rattle.std.proofs.Common.{◌≡◌, ℕ, zero, suc, ◌-◌, ◌<◌, ◌≤◌, Bool, true, false, List, [], ◌∷◌, length, get_or}
 use Rattle.std.proofs.Common.{drop, take, refl, sym, ap, ◌∙◌, arith, ltb-true}
 use Rattle.std.specs.Prelude.{nat_lt}
@@ -12,12 +11,10 @@ use Rattle.kcl_audit_streams.proofs.BatchSteps.{left_in}
 
 -- ---- Positions
 
--- A record below the position isn't among those that are left. `b` says whether the record is one of the shard `sh`.
 past_one : (sh floor position : ℕ) (x : Sized) (xs : List Sized) (b : Bool) → is_in sh x ≡ b → x.seq < position
     → left_in sh floor position (x ∷ xs) ≡ left_in sh floor position xs
 past_one sh floor position x xs b e lt = grind (arith, nat_tests, e)
 
--- If each of the first `i` records is below the position, the records that are left are all among those from `i` on.
 pub left_behind : (sh floor position : ℕ) (xs : List Sized) (i : ℕ)
     → ((k : ℕ) (d : Sized) → k < i → k < length xs → (get_or xs k d).seq < position)
     → left_in sh floor position (drop i xs) ≡ left_in sh floor position xs
@@ -27,8 +24,6 @@ left_behind sh floor position (x ∷ xs) (suc i) h =
     left_behind sh floor position xs i (λ k d low lt. h (suc k) d (omega arith) (omega arith))
     ∙ sym (past_one sh floor position x xs (is_in sh x) refl (h 0 x (omega arith) (omega arith)))
 
--- Let the records before the index `i`, and no others, be below the position. Then what is left of the records from `i`
--- on is what is left of all records.
 pub left_from : (sh floor position : ℕ) (xs : List Sized) (i : ℕ)
     → IsPartitionPoint (λ (y : Sized). nat_lt y.seq position ≡ true) (λ (y : Sized). nat_lt y.seq position ≡ false) xs i
     → left_in sh floor position (take (length xs - i) (drop i xs)) ≡ left_in sh floor position xs
@@ -39,12 +34,10 @@ left_from sh floor position xs i point =
 
 -- ---- Arrivals
 
--- A record that arrived before the floor isn't among those that are left. `b` says whether the record is one of `sh`.
 past_early : (sh floor position : ℕ) (x : Sized) (xs : List Sized) (b : Bool) → is_in sh x ≡ b → x.arrival < floor
     → left_in sh floor position (x ∷ xs) ≡ left_in sh floor position xs
 past_early sh floor position x xs b e lt = grind (arith, nat_tests, e)
 
--- If each of the first `i` records arrived before the floor, the records that are left are all among those from `i` on.
 early_behind : (sh floor position : ℕ) (xs : List Sized) (i : ℕ)
     → ((k : ℕ) (d : Sized) → k < i → k < length xs → (get_or xs k d).arrival < floor)
     → left_in sh floor position (drop i xs) ≡ left_in sh floor position xs
@@ -54,8 +47,6 @@ early_behind sh floor position (x ∷ xs) (suc i) h =
     early_behind sh floor position xs i (λ k d low lt. h (suc k) d (omega arith) (omega arith))
     ∙ sym (past_early sh floor position x xs (is_in sh x) refl (h 0 x (omega arith) (omega arith)))
 
--- Let the records before the index `i`, and no others, have arrived before the floor. Then what is left of the records
--- from `i` on is what is left of all records.
 pub left_since : (sh floor position : ℕ) (xs : List Sized) (i : ℕ)
     → IsPartitionPoint (λ (y : Sized). nat_lt y.arrival floor ≡ true) (λ (y : Sized). nat_lt y.arrival floor ≡ false)
     xs i

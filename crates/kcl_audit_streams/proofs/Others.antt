@@ -1,4 +1,4 @@
--- A line of another stream or of a lease changes nothing in the judge's model of a stream.
+-- A line of another stream or of a lease leaves a stream's model unchanged.
 use Rattle.std.proofs.Common.{◌≡◌, ◌≢◌, ℕ, ◌+◌, ◌≤◌, List, [], ◌∷◌, None, Some, map, sym, ap, subst, ◌∙◌, arith}
 use Rattle.kds_defs.proofs.Elsewhere.{count_same, floor_same, fresh_other, of_no_stream, same_stream}
 use Rattle.kds_defs.specs.Journal.{Line, Journal}
@@ -8,8 +8,6 @@ use Rattle.kds_defs.specs.Subjects.{stream_of}
 use Rattle.kcl_laws.specs.Recorded.{bare}
 use Rattle.kcl_audit_streams.specs.Standing.{AreStreams, IsStream, Shows, StreamValue, StreamsValue}
 
--- Let `v` be the model of the stream `s`. It still is after a line that isn't of this stream, if the line's clock isn't
--- below that of the journal's newest line.
 pub stream_other : (log : Journal) (line : Line) (s : ℕ) (v : StreamValue) → last_clock log ≤ line.clock
     → stream_of line.what ≢ Some s → IsStream log s v
     → IsStream (line ∷ log) s v
@@ -30,8 +28,6 @@ stream_other log line s v order other st =
 
 -- ---- A line of a lease and all streams
 
--- If the list has the models of all streams from the number `n` on, it still has them after a line that is of no
--- stream.
 streams_kept : (log : Journal) (line : Line) (n : ℕ) (vs : List StreamValue) → last_clock log ≤ line.clock
     → stream_of line.what ≡ None
     → AreStreams log n vs → AreStreams (line ∷ log) n vs
@@ -41,11 +37,10 @@ streams_kept log line n (v ∷ vs) order none h = (
   streams_kept log line (n + 1) vs order none h.1,
 )
 
--- If the model `w` represents the journal, it still does after a line that is of no stream, at the clock of the model.
 pub shows_lease : (w : StreamsValue) (log : Journal) (line : Line) → Shows w log → line.clock ≡ w.clock
     → stream_of line.what ≡ None → Shows w (line ∷ log)
-shows_lease w log line sh at none =
-    let order : last_clock log ≤ line.clock = subst (λ n. last_clock log ≤ n) (sym at) sh.order in
+shows_lease w log line sh is_at none =
+    let order : last_clock log ≤ line.clock = subst (λ n. last_clock log ≤ n) (sym is_at) sh.order in
     record {
       all = record {
         made = count_same line.what (made_count log) none ∙ sh.all.made;
@@ -53,5 +48,5 @@ shows_lease w log line sh at none =
         others = λ s beyond. fresh_other log line s (sh.all.others s beyond) (of_no_stream line.what s none);
         none = fresh_other log line 0 sh.all.none (of_no_stream line.what 0 none);
       };
-      order = subst (λ n. n ≤ w.clock) (sym at) (omega arith);
+      order = subst (λ n. n ≤ w.clock) (sym is_at) (omega arith);
     }

@@ -1,5 +1,4 @@
--- The tests by which the judge compares two entries are right: an entry is the same as itself, and entries that pass
--- the test are equal.
+-- The judge's test of entries is equality.
 use Rattle.std.proofs.Common.{◌≡◌, ℕ, Bool, true, false, List, [], ◌∷◌, refl, sym, ap, arith}
 use Rattle.std.specs.Prelude.{◌==◌}
 use Rattle.std.proofs.lemmas.Bool.{and_parts}
@@ -14,40 +13,35 @@ use Rattle.kds_defs.specs.declared.entry.Entry.TheVariants as entry
 use Rattle.kds_defs.proofs.Keys.{key_itself, same_ref}
 use Rattle.kcl_audit_streams.specs.Verdict.{same_entry, same_flag, same_list, same_origin, same_target}
 
--- A list of numbers is the same as itself by the test.
 pub list : (ns : List ℕ) → same_list ns ns ≡ true
 list [] = refl
 list (n ∷ ns) = rw (is_itself n, list ns) refl
 
--- A flag is the same as itself by the test.
 pub flag : (b : Bool) → same_flag b b ≡ true
 flag true = refl
 flag false = refl
 
-aim : (to : Target) → same_target to to ≡ true
+aim : (goal : Target) → same_target goal goal ≡ true
 aim target.End = refl
 aim (target.At q) = is_itself q
 
-start : (from : Origin) → same_origin from from ≡ true
+start : (beginning : Origin) → same_origin beginning beginning ≡ true
 start origin.TrimHorizon = refl
 start origin.Latest = refl
 start (origin.Time m) = is_itself m
 
--- An entry is the same as itself by the test.
 pub same_refl : (e : Entry) → same_entry e e ≡ true
 same_refl (entry.Gone s) = is_itself s
 same_refl _ = simp (is_itself, list, flag, aim, start, key_itself) refl
 
 -- ---- What passes the test is equal
 
--- Lists that pass the test are equal.
 pub list_so : (a b : List ℕ) → same_list a b ≡ true → a ≡ b
 list_so [] [] h = refl
 list_so [] (y ∷ b) h = absurd cc
 list_so (x ∷ a) [] h = absurd cc
 list_so (x ∷ a) (y ∷ b) h = let p = and_parts (x == y) (same_list a b) h in λ i. equal_so x y p.0 i ∷ list_so a b p.1 i
 
--- Flags that pass the test are equal.
 pub flag_so : (a b : Bool) → same_flag a b ≡ true → a ≡ b
 flag_so true b h = sym h
 flag_so false _ h = grind arith
@@ -56,12 +50,10 @@ aim_so : (a b : Target) → same_target a b ≡ true → a ≡ b
 aim_so (target.At q) (target.At p) h = ap target.At (equal_so q p h)
 aim_so _ _ h = grind arith
 
--- Origins that pass the test are equal.
 pub origin_so : (a b : Origin) → same_origin a b ≡ true → a ≡ b
 origin_so (origin.Time m) (origin.Time n) h = ap origin.Time (equal_so m n h)
 origin_so _ _ h = grind arith
 
--- Entries that pass the test are equal.
 pub same_so : (a b : Entry) → same_entry a b ≡ true → a ≡ b
 same_so (entry.Made s name count) (entry.Made s' name' count') h = grind (arith, nat_tests, list_so name name')
 same_so (entry.Read t limit ended ns) (entry.Read t' limit' ended' ns') h =

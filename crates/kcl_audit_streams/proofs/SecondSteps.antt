@@ -1,5 +1,4 @@
--- The judge keeps which second is the latest in which a record of the shard arrived, and where the records of this
--- second begin (`AreLatest`). A put keeps this right, and only these records matter for the limits on throughput.
+-- The judge keeps a shard's latest second and where it begins, which is enough for the limits.
 use Rattle.std.proofs.Common.{◌≡◌, ℕ, zero, suc, ◌+◌, ◌-◌, ◌<◌, ◌≤◌, Bool, true, false, List, [], ◌∷◌, ◌++◌, length}
 use Rattle.std.proofs.Common.{drop, take, refl, ap, ◌∙◌, arith}
 use Rattle.std.specs.Prelude.{◌/◌, ◌==◌, if◌then◌else◌}
@@ -15,11 +14,11 @@ use Rattle.kcl_audit_streams.proofs.RateSteps.{sized}
 
 -- ---- Puts
 
--- Each of the records arrived before the second `second`.
+-- All records arrived before the second.
 abbrev Below : ℕ → List Sized → Type 0
 Below second rs = AllByRecursion (λ (r : Sized). r.arrival / SECOND < second) rs
 
--- Each of the records arrived in the second `second` or before it.
+-- All records arrived in the second or before.
 abbrev UpTo : ℕ → List Sized → Type 0
 UpTo second rs = AllByRecursion (λ (r : Sized). r.arrival / SECOND ≤ second) rs
 
@@ -48,7 +47,6 @@ length_more (x ∷ rs) r = let one = length_more rs r in omega arith
 at_most : (a b c : ℕ) → a ≤ b → b ≤ c → a ≤ c
 at_most a b c x y = omega arith
 
--- `AreLatest` still holds after a record `r` was added that arrived in the second `second` or before it.
 pub latest_same : (second start : ℕ) (rs : List Sized) (r : Sized) → AreLatest second start rs
     → r.arrival / SECOND ≤ second → AreLatest second start (rs ++ r ∷ [])
 latest_same second start rs r h le = record {
@@ -69,8 +67,6 @@ window_if : (c : ℕ) (p : SizedPut) (a b : List SizedPut) (t : Bool) → window
 window_if c p a b true h = window_cons c p a b (is_same_second p.clock c) refl h
 window_if c p a b false h = h
 
--- If two lists of puts have the same puts in the second of the clock `c`, they still do after the puts of the records
--- `rs` were added to both.
 same_window : (c sh : ℕ) (a b : List SizedPut) (rs : List Sized) → window c a ≡ window c b
     → window c (puts_from a rs sh) ≡ window c (puts_from b rs sh)
 same_window c sh a b [] h = h
@@ -87,16 +83,14 @@ window_past c p a true lt = let e : is_same_second p.clock c ≡ false = differs
     rw e refl
 window_past c p a false lt = refl
 
--- If the first `i` records arrived before the second of the clock `c`, the puts in this second are the same without
--- them.
-window_behind : (c sh i : ℕ) (before : List SizedPut) (rs : List Sized) → Below (c / SECOND) (take i rs)
-    → window c (puts_from before (drop i rs) sh) ≡ window c (puts_from before rs sh)
-window_behind c sh zero before rs h = refl
-window_behind c sh (suc i) before [] h = refl
-window_behind c sh (suc i) before (r ∷ rs) h =
-    window_behind c sh i before rs h.1
-    ∙ same_window c sh before (if is_in sh r then sized r ∷ before else before) rs
-    (window_past c (sized r) before (is_in sh r) h.0)
+window_behind : (c sh i : ℕ) (old : List SizedPut) (rs : List Sized) → Below (c / SECOND) (take i rs)
+    → window c (puts_from old (drop i rs) sh) ≡ window c (puts_from old rs sh)
+window_behind c sh zero old rs h = refl
+window_behind c sh (suc i) old [] h = refl
+window_behind c sh (suc i) old (r ∷ rs) h =
+    window_behind c sh i old rs h.1
+    ∙ same_window c sh old (if is_in sh r then sized r ∷ old else old) rs
+    (window_past c (sized r) old (is_in sh r) h.0)
 
 below_later : (old new : ℕ) (rs : List Sized) → old ≤ new → Below old rs → Below new rs
 below_later old new [] le h = tt
@@ -105,8 +99,7 @@ below_later old new (r ∷ rs) le h = (below_one (r.arrival / SECOND) old new le
     below_one : (n a b : ℕ) → a ≤ b → n < a → n < b
     below_one n a b le lt = omega arith
 
--- Whether a put at the clock `c` is throttled depends only on the records of the latest second, if `c` isn't in an
--- earlier second.
+-- Only records of the latest second decide about throttling.
 pub throttled_latest : (second start c sh bytes : ℕ) (rs : List Sized) → AreLatest second start rs → second ≤ c / SECOND
     → is_throttled (puts_in (take (length rs - start) (drop start rs)) sh) c bytes
     ≡ is_throttled (puts_in rs sh) c bytes

@@ -122,7 +122,7 @@ impl ToldStream {
     }
 
     /// Notes that the stream's throughput limits were turned on (if `on` is true) or off (if not).
-    pub fn add_limits(&mut self, on: bool)
+    pub fn note_limits(&mut self, on: bool)
         ensures { self.new ≡ with_limits on self.old }
     {
         self.enforced = on;
@@ -423,7 +423,7 @@ impl ToldStream {
                 ..
             } => self.add_merge(clock, *shard, *other, *seq)?,
             Entry::Kept { hours, .. } => self.add_kept(clock, *hours),
-            Entry::Enforced { on, .. } => self.add_limits(*on),
+            Entry::Enforced { on, .. } => self.note_limits(*on),
             _ => (),
         }
         Ok(())

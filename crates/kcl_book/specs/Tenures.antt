@@ -1,5 +1,4 @@
--- The book of tenures, which are numbered from 1 (Kinesis Client Library, lease ownership). A tenure is one worker's
--- hold on a lease.
+-- The book of tenures, which are numbered from 1 (Kinesis Client Library, lease ownership).
 use Rattle.std.specs.Prelude.{ℕ, zero, suc, ◌≡◌, ◌-◌, Bool, false, List, [], ◌∷◌, ◌++◌, length, slice_get, slice_set}
 use Rattle.std.specs.Prelude.{Option, None, IfSome}
 use Rattle.kds_base.specs.declared.lease_key.Checkpoint.{Checkpoint}
@@ -9,9 +8,7 @@ use Rattle.kds_defs.specs.Listings.{are_none}
 use Rattle.kcl_book.specs.declared.tenure.PendingRead.{PendingRead}
 use Rattle.kcl_book.specs.declared.tenure.Tenure.{Tenure}
 
--- A tenure: its actor, its key, the checkpoint where it begins, and whether it was opened; the position up to which it
--- has read (`reach`), and the position up to which its reads are given (`delivered`). Then follow the reads that aren't
--- given, the oldest first, and whether the last given read ended the shard.
+-- A tenure: read up to `reach` and given up to `delivered`, with the reads not given, oldest first.
 pub record TenureValue : Type 0 where
   pub by : ℕ
   pub key : ShardRef
@@ -22,18 +19,16 @@ pub record TenureValue : Type 0 where
   pub pending : List PendingRead
   pub at_end : Bool
 
--- The book of tenures as contracts see it: the tenures in the order of their numbers, and for how many further tenures
--- it has memory.
+-- The tenures in the order of their numbers; `spare` is the memory for further ones.
 pub record BookValue : Type 0 where
   pub tenures : List TenureValue
   pub spare : ℕ
 
--- A new tenure of the actor `by` with the key `key`, which begins at the checkpoint `start`. It isn't opened, and
--- nothing is read or given.
-abbrev pub begun : ℕ → ShardRef → Checkpoint → TenureValue
-begun by key start =
+-- A new tenure, not opened, with nothing read or given.
+abbrev pub begun : (actor : ℕ) (key : ShardRef) (start : Checkpoint) → TenureValue
+begun actor key start =
     record {
-      by = by;
+      by = actor;
       key = key;
       start = start;
       opened = false;
@@ -43,17 +38,17 @@ begun by key start =
       at_end = false;
     }
 
--- The tenure whose number is the second argument, if there is one. Numbers begin at 1.
-abbrev pub tenure_at : List TenureValue → ℕ → Option TenureValue
+-- The tenure with the number `n`, if any; numbers begin at 1.
+abbrev pub tenure_at : (ts : List TenureValue) (n : ℕ) → Option TenureValue
 tenure_at ts zero = None
 tenure_at ts (suc n) = slice_get ts n
 
--- The book `book` with the tenure `t` in place of the one with the number `number`.
-abbrev pub with_tenure : ℕ → TenureValue → BookValue → BookValue
+-- The book with `t` as the tenure with this number.
+abbrev pub with_tenure : (number : ℕ) (t : TenureValue) (book : BookValue) → BookValue
 with_tenure number t book = record book { tenures = slice_set book.tenures (number - 1) t }
 
--- The tenure `t` as callers see it: with the number of its reads that aren't given, in place of these reads.
-abbrev pub shown : TenureValue → Tenure
+-- The tenure as callers see it, with only the number of reads not given.
+abbrev pub shown : (t : TenureValue) → Tenure
 shown t =
     record {
       by = t.by;
@@ -66,23 +61,21 @@ shown t =
       at_end = t.at_end;
     }
 
--- The tenure `t` after one more read, which reached the position `reach`. `ended` is true if the read ended the shard.
-abbrev pub with_read : ℕ → Bool → TenureValue → TenureValue
+-- The tenure after a read up to `reach`; `ended` says whether it ended the shard.
+abbrev pub with_read : (reach : ℕ) (ended : Bool) (t : TenureValue) → TenureValue
 with_read reach ended t = record t { reach = reach; pending = t.pending ++ record { reach = reach; end = ended } ∷ [] }
 
--- The tenure `t` after one more read was given. The first argument has the reads of `t` that aren't given, and the
--- first of these is given. If there is no such read, nothing changes.
-abbrev pub given_of : List PendingRead → TenureValue → TenureValue
+-- The tenure after the first of the reads `rs`, which aren't given, was given; unchanged without one.
+abbrev pub given_of : (rs : List PendingRead) (t : TenureValue) → TenureValue
 given_of [] t = t
 given_of (r ∷ rs) t = record t { delivered = r.reach; pending = rs; at_end = r.end }
 
--- The tenure `t` after the oldest of its reads that aren't given was given.
-abbrev pub with_given : TenureValue → TenureValue
+-- The tenure after its oldest read not given was given.
+abbrev pub with_given : (t : TenureValue) → TenureValue
 with_given t = given_of t.pending t
 
--- If the book `old` has the tenure `number`, this tenure has a read that isn't given. The book `new` is `old` with the
--- oldest such read given, and `delivered` is the position that this read reached.
-abbrev pub HasGiven : ℕ → ℕ → BookValue → BookValue → Type 0
+-- If the tenure exists, it has a read not given, and the oldest such read is given, up to `delivered`.
+abbrev pub HasGiven : (number delivered : ℕ) (old new : BookValue) → Type 0
 HasGiven number delivered old new =
     IfSome (tenure_at old.tenures number) (λ t. (are_none t.pending ≡ false)
     × (delivered ≡ (with_given t).delivered) × (new ≡ with_tenure number (with_given t) old))

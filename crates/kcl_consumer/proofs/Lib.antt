@@ -1,2 +1,2 @@
-mod StandLemmas
+pub mod StandLemmas
 mod WaitingLemmas

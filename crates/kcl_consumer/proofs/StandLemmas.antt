@@ -1,5 +1,4 @@
--- After a call of a consumer's functions, the consumer stands for its record with what the call adds. The record is the
--- list of the consumer's events. `stands` says which processor calls a processor stands for.
+-- After each call of its functions, a consumer stands for its trace with what the call adds.
 use Rattle.std.proofs.Common.{◌≡◌, ℕ, Bool, false, List, ◌∷◌, Option, None, Ok, Err, refl, sym, ap, subst, ◌∙◌}
 use Rattle.std.specs.Prelude.{Result}
 use Rattle.kds_defs.specs.declared.command.Target.{Target}
@@ -20,10 +19,8 @@ use Rattle.kcl_consumer.specs.declared.stage.ConsumerStage.TheVariants as stage
 use Rattle.kcl_consumer.specs.Stages.{stage_of}
 use Rattle.kcl_consumer.specs.Standing.{HasCalled, IsAsBefore, ConsumerValue, StandsFor}
 
--- `new` is the consumer `old` after its due processor call has returned. If `old` stands for the record `past`, `new`
--- stands for `past` with this call added.
-pub called : {P : Type 0} (stands : P → List Call → Type 0) (asks : P → List Stored → Ask
-    → Type 0) (asked : Ask) (old new : ConsumerValue P) (past : Past) → HasCalled stands asks asked old new
+pub called : {P : Type 0} (stands : P → List Call → Type 0) (asks : P → List Stored → Ask → Type 0) (asked : Ask)
+    (old new : ConsumerValue P) (past : Past) → HasCalled stands asks asked old new
     → StandsFor stands old past → StandsFor stands new (Called asked ∷ past)
 called stands asks asked old new past h s = record {
   stage = h.stage ∙ ap (after_call old.made asked) s.stage
@@ -35,9 +32,8 @@ called stands asks asked old new past h s = record {
       (h.calls (calls_after old.made past) s.calls));
 }
 
--- If the consumer `new` is as `old` was (`IsAsBefore`), then `new` stands for each record for which `old` stands.
-pub kept : {P : Type 0} (stands : P → List Call → Type 0) (asks : P → List Stored → Ask
-    → Type 0) (old new : ConsumerValue P)
+pub kept : {P : Type 0} (stands : P → List Call → Type 0) (asks : P → List Stored → Ask → Type 0)
+    (old new : ConsumerValue P)
     (past : Past) → IsAsBefore stands asks old new → StandsFor stands old past → StandsFor stands new past
 kept stands asks old new past h s = record {
   stage = h.stage ∙ s.stage ∙ ap (λ m. stage_after m past) (sym h.made);
@@ -46,81 +42,74 @@ kept stands asks old new past h s = record {
       (h.calls (calls_after old.made past) s.calls);
 }
 
--- `new` is the consumer `old` after the answer `answer`. If `old` stands for the record `past`, `new` stands for `past`
--- with this answer added.
 pub answered : {P : Type 0} (stands : P → List Call → Type 0) (answer : Result Reply Refusal)
     (old new : ConsumerValue P)
     (past : Past) → new.made ≡ old.made → new.stage ≡ after_answer old.made answer old.stage
     → new.given ≡ given_after answer old.stage old.given → new.processor ≡ old.processor → StandsFor stands old past
     → StandsFor stands new (Answered answer ∷ past)
-answered stands answer old new past made stage given processor s = record {
+answered stands answer old new past made stage is_given processor s = record {
   stage = stage ∙ ap (after_answer old.made answer) s.stage
       ∙ ap (λ m. after_answer m answer (stage_after m past)) (sym made);
-  given = given ∙ ap (λ p. given_after answer p old.given) s.stage
+  given = is_given ∙ ap (λ p. given_after answer p old.given) s.stage
       ∙ ap (given_after answer (stage_after old.made past)) s.given
       ∙ sym (given_answered old.made answer past) ∙ ap (λ m. last_given m (Answered answer ∷ past)) (sym made);
   calls = subst (λ p. stands p (calls_after new.made (Answered answer ∷ past))) (sym processor)
       (subst (λ m. stands old.processor (calls_after m (Answered answer ∷ past))) (sym made) s.calls);
 }
 
--- `new` is the consumer `old` after it has learnt that its lease is lost. If `old` stands for the record `past`, `new`
--- stands for `past` with this loss added.
 pub lost : {P : Type 0} (stands : P → List Call → Type 0) (old new : ConsumerValue P) (past : Past)
     → new.made ≡ old.made
     → new.stage ≡ after_loss old.stage → new.given ≡ old.given → new.processor ≡ old.processor
     → StandsFor stands old past → StandsFor stands new (Losing ∷ past)
-lost stands old new past made stage given processor s = record {
+lost stands old new past made stage is_given processor s = record {
   stage = stage ∙ ap after_loss s.stage ∙ ap (λ m. after_loss (stage_after m past)) (sym made);
-  given = given ∙ s.given ∙ sym (given_lost old.made past) ∙ ap (λ m. last_given m (Losing ∷ past)) (sym made);
+  given = is_given ∙ s.given ∙ sym (given_lost old.made past) ∙ ap (λ m. last_given m (Losing ∷ past)) (sym made);
   calls = subst (λ p. stands p (calls_after new.made (Losing ∷ past))) (sym processor)
       (subst (λ m. stands old.processor (calls_after m (Losing ∷ past))) (sym made) s.calls);
 }
 
 -- ---- The answers to a Read and to a Give, in terms of the fields
 
--- The consumer with these fields: `st` is the stored stage, `reach` is the read position, and `ahead` has the waiting
--- batches. `asked` is the target of the mark that the processor asked for, and `lost` is true if the lease is known to
--- be lost.
+-- The consumer with these stored fields, as callers see it.
 abbrev fields : {P : Type 0} → Tenancy → ConsumerStage → ℕ → List Fetched → Option Target → Bool → Option ℕ → P
     → ConsumerValue P
-fields made st reach ahead asked lost given processor =
-    record { made = made; stage = stage_of st reach ahead asked lost; given = given; processor = processor }
+fields made st reach ahead asked lost last processor =
+    record { made = made; stage = stage_of st reach ahead asked lost; given = last; processor = processor }
 
 given_still : (answer : Result Reply Refusal) (reach : ℕ) (waiting : List Fetched) (last : Option ℕ)
     → last ≡ given_after answer (Filling reach waiting) last
 given_still (Ok reply) reach waiting last = refl
 given_still (Err r) reach waiting last = refl
 
--- After the answer to a Read, the consumer with these fields stands for its record with the answer added. The names
--- with a prime are the fields after the answer.
+-- Primed names are the fields after the answer.
 pub read_answered : {P : Type 0} (stands : P → List Call → Type 0) (answer : Result Reply Refusal) (made : Tenancy)
     (st st' : ConsumerStage) (reach reach' : ℕ) (ahead ahead' : List Fetched) (asked asked' : Option Target)
-    (lost lost' : Bool) (given : Option ℕ) (p : P) (past : Past) → st ≡ stage.Filling → asked' ≡ None → lost' ≡ false
+    (lost lost' : Bool) (last : Option ℕ) (p : P) (past : Past) → st ≡ stage.Filling → asked' ≡ None → lost' ≡ false
     → stage_of st' reach' ahead' None false ≡ after_read made.limit reach ahead answer
-    → StandsFor stands (fields made st reach ahead asked lost given p) past
-    → StandsFor stands (fields made st' reach' ahead' asked' lost' given p) (Answered answer ∷ past)
-read_answered stands answer made st st' reach reach' ahead ahead' asked asked' lost lost' given p past is none not_lost
+    → StandsFor stands (fields made st reach ahead asked lost last p) past
+    → StandsFor stands (fields made st' reach' ahead' asked' lost' last p) (Answered answer ∷ past)
+read_answered stands answer made st st' reach reach' ahead ahead' asked asked' lost lost' last p past is none not_lost
     stage s =
-    answered stands answer (fields made st reach ahead asked lost given p)
-    (fields made st' reach' ahead' asked' lost' given p) past refl
+    answered stands answer (fields made st reach ahead asked lost last p)
+    (fields made st' reach' ahead' asked' lost' last p) past refl
     (ap (λ a. stage_of st' reach' ahead' a lost') none ∙ ap (stage_of st' reach' ahead' None) not_lost ∙ stage
     ∙ sym (ap (λ x. after_answer made answer (stage_of x reach ahead asked lost)) is))
-    (given_still answer reach ahead given
-    ∙ sym (ap (λ x. given_after answer (stage_of x reach ahead asked lost) given) is)) refl s
+    (given_still answer reach ahead last
+    ∙ sym (ap (λ x. given_after answer (stage_of x reach ahead asked lost) last) is)) refl s
 
--- After the answer to a Give, the consumer with these fields stands for its record with the answer added. The names
--- with a prime are the fields after the answer.
+-- Primed names are the fields after the answer.
 pub give_answered : {P : Type 0} (stands : P → List Call → Type 0) (answer : Result Reply Refusal) (made : Tenancy)
     (st st' : ConsumerStage) (reach : ℕ) (ahead ahead' : List Fetched) (asked asked' : Option Target)
-    (lost lost' : Bool) (given given' : Option ℕ) (p : P) (past : Past) → st ≡ stage.Giving → asked' ≡ None
+    (lost lost' : Bool) (option option' : Option ℕ) (p : P) (past : Past) → st ≡ stage.Giving → asked' ≡ None
     → lost' ≡ false → stage_of st' reach ahead' None false ≡ after_give reach ahead asked lost answer
-    → given' ≡ given_after answer (Giving reach ahead asked lost) given
-    → StandsFor stands (fields made st reach ahead asked lost given p) past
-    → StandsFor stands (fields made st' reach ahead' asked' lost' given' p) (Answered answer ∷ past)
-give_answered stands answer made st st' reach ahead ahead' asked asked' lost lost' given given' p past is none not_lost
+    → option' ≡ given_after answer (Giving reach ahead asked lost) option
+    → StandsFor stands (fields made st reach ahead asked lost option p) past
+    → StandsFor stands (fields made st' reach ahead' asked' lost' option' p) (Answered answer ∷ past)
+give_answered stands answer made st st' reach ahead ahead' asked asked' lost lost' option option' p past is none
+    not_lost
     stage last s =
-    answered stands answer (fields made st reach ahead asked lost given p)
-    (fields made st' reach ahead' asked' lost' given' p) past refl
+    answered stands answer (fields made st reach ahead asked lost option p)
+    (fields made st' reach ahead' asked' lost' option' p) past refl
     (ap (λ a. stage_of st' reach ahead' a lost') none ∙ ap (stage_of st' reach ahead' None) not_lost ∙ stage
     ∙ sym (ap (λ x. after_answer made answer (stage_of x reach ahead asked lost)) is))
-    (last ∙ sym (ap (λ x. given_after answer (stage_of x reach ahead asked lost) given) is)) refl s
+    (last ∙ sym (ap (λ x. given_after answer (stage_of x reach ahead asked lost) option) is)) refl s

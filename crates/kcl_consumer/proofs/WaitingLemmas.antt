@@ -1,11 +1,10 @@
--- A Read of a consumer is never refused with TooManyPending. This refusal comes only if at least `PENDING_READS` reads
--- of the consumer's tenure wait to be given. A consumer reads only while fewer batches wait.
-use Rattle.std.proofs.Common.{◌≡◌, ℕ, suc, ◌+◌, ◌-◌, ◌<◌, ◌≤◌, Bool, true, false, List, [], ◌∷◌, ◌++◌, length, Option}
+-- A consumer's Read never gets TooManyPending, because it reads only below `PENDING_READS` waiting batches.
+use Rattle.std.proofs.Common.{◌≡◌, ℕ, ◌+◌, ◌-◌, ◌<◌, ◌≤◌, Bool, true, false, List, [], ◌∷◌, ◌++◌, length, Option}
 use Rattle.std.proofs.Common.{Some, None, Ok, Err, refl, sym, ap}
 use Rattle.std.proofs.Common.{subst, ◌∙◌, arith, length-append}
-use Rattle.std.specs.Prelude.{◌==◌, ◌||◌, nat_le, nat_lt, if◌then◌else◌, not, map, Result}
-use Rattle.std.proofs.lemmas.Bool.Decides.{nat_tests}
+use Rattle.std.specs.Prelude.{◌==◌, ◌||◌, nat_le, nat_lt, if◌then◌else◌, not, Result}
 use Rattle.std.proofs.lemmas.Bool.{not-false}
+use Rattle.kds_base.proofs.Facts.{above_so, le_so}
 use Rattle.kds_defs.proofs.Leads.{Leads, if_none, if_refused, leads_so}
 use Rattle.kds_defs.specs.declared.command.Command.TheVariants as command
 use Rattle.kds_defs.specs.declared.command.Target.{Target}
@@ -32,14 +31,14 @@ use Rattle.kcl_defs.specs.Consumers.{after_read, calls_after, front}
 use Rattle.kcl_defs.specs.Consumers.{given, is_empty, stops_filling, is_loss, next_command, onward, stage_after}
 use Rattle.kcl_defs.specs.Consumers.{first_has_records}
 use Rattle.kcl_defs.specs.Lives.{Deal, deals_of, gives_after, gives_in, reads_after, reads_in}
-use Rattle.kcl_defs.specs.WorkerLives.{read_done}
 use Rattle.kcl_defs.proofs.DealLemmas.{AgreeWith, AllAgree, agree}
 use Rattle.kcl_defs.proofs.LifeLemmas.{Holds, holds}
+use Rattle.kcl_defs.proofs.GiveLemmas.{length_map}
 use Rattle.kcl_consumer.specs.Standing.{IsNeverFull}
 
 -- ---- In the record of the consumer
 
--- If the stage is `Filling`, fewer than `PENDING_READS` batches wait.
+-- In `Filling`, fewer than `PENDING_READS` batches wait.
 abbrev HasFewWaiting : Stage → Type 0
 HasFewWaiting (Filling reach waiting) = length waiting < PENDING_READS
 HasFewWaiting _ = Unit {0}
@@ -60,15 +59,12 @@ first_false : (x y z : Bool) → (x || y || z) ≡ false → x ≡ false
 first_false true y z e = e
 first_false false y z e = refl
 
-below : (most n : ℕ) → nat_le most n ≡ false → n < most
-below most n e = grind (arith, nat_tests)
-
 fetched_few : (limit reach : ℕ) (ws : List Fetched) (f : Fetched) (b : Bool) → stops_filling limit (length ws + 1) f ≡ b
     → HasFewWaiting (if b then front reach (ws ++ f ∷ []) else Filling reach (ws ++ f ∷ []))
 fetched_few limit reach ws f true e = front_few reach (ws ++ f ∷ [])
 fetched_few limit reach ws f false e =
     subst (λ n. n < PENDING_READS) (sym (length-append ws (f ∷ [])))
-    (below PENDING_READS (length ws + 1)
+    (above_so PENDING_READS (length ws + 1)
     (first_false (nat_le PENDING_READS (length ws + 1)) f.ended (nat_lt (length f.batch) limit) e))
 
 ended_few : (b : Bool) (reach : ℕ) (ws : List Fetched) (asked : Option Target)
@@ -156,16 +152,15 @@ room_after : (made : Tenancy) (past : Past) → HasFewWaiting (stage_after made 
 room_after made [] = tt
 room_after made (event ∷ past) = event_few made event (stage_after made past) (room_after made past)
 
--- If a Read comes next, the consumer is in the stage `Filling`, and the Read names the consumer's tenure.
 reads_filling : (made : Tenancy) (stage : Stage) (counter t position limit : ℕ)
     → next_command made stage counter ≡ Some (command.Read t position limit)
-    → (to : ℕ) × (waiting : List Fetched) × (stage ≡ Filling to waiting) × (made.tenure ≡ t)
+    → (end : ℕ) × (waiting : List Fetched) × (stage ≡ Filling end waiting) × (made.tenure ≡ t)
 reads_filling made Opening counter t position limit e = cc
 reads_filling made Starting counter t position limit e = cc
-reads_filling made (Filling at ws) counter t position limit e = (at, ws, refl, cc)
-reads_filling made (Holding at ws) counter t position limit e = cc
-reads_filling made (Giving at ws asked lost) counter t position limit e = cc
-reads_filling made (Marking at ws target) counter t position limit e = cc
+reads_filling made (Filling moment ws) counter t position limit e = (moment, ws, refl, cc)
+reads_filling made (Holding moment ws) counter t position limit e = cc
+reads_filling made (Giving moment ws asked lost) counter t position limit e = cc
+reads_filling made (Marking moment ws target) counter t position limit e = cc
 reads_filling made Ending counter t position limit e = cc
 reads_filling made MarkingEnd counter t position limit e = cc
 reads_filling made (Leaving why) counter t position limit e = cc
@@ -173,8 +168,7 @@ reads_filling made (Over why) counter t position limit e = cc
 
 -- ---- In the history
 
--- If the answer `a` is the refusal TooManyPending, at least `PENDING_READS` reads of the tenure `t` among `deals`
--- aren't given.
+-- If the answer is TooManyPending, at least `PENDING_READS` reads of the tenure aren't given.
 abbrev IsManyIfRefused : ℕ → List Deal → List Line → Result Reply Refusal → Type 0
 IsManyIfRefused t deals lines a = a ≡ Err refusal.TooManyPending
     → PENDING_READS + gives_in t deals ≤ length (reads_in t deals)
@@ -185,57 +179,48 @@ unfolding refuse◌if◌else◌
 if_tested P r true d h g = h refl
 if_tested P r false d h g = g refl
 
-length_done : (xs : List Fetched) → length (map read_done xs) ≡ length xs
-length_done [] = refl
-length_done (x ∷ xs) = ap suc (length_done xs)
-
-at_least : (most n : ℕ) → nat_le most n ≡ true → most ≤ n
-at_least most n e = grind (arith, nat_tests)
-
 as_many : (most a b g n : ℕ) → 1 ≤ most → a ≡ b → g ≡ n → most ≤ b - n → most + g ≤ a
 as_many most a b g n some reads gives many = omega arith
 
-read_told : (by c t position limit : ℕ) (deals : List Deal) (log : Journal) → AllAgree by deals log
-    → Leads (IsManyIfRefused t deals) (read log c by t position limit)
-read_told by c t position limit deals log all =
+read_told : (actor c t position limit : ℕ) (deals : List Deal) (log : Journal) → AllAgree actor deals log
+    → Leads (IsManyIfRefused t deals) (read log c actor t position limit)
+read_told actor c t position limit deals log all =
     let P = IsManyIfRefused t deals in
     if_none P refusal.NoTenure (tenure log t) _ (λ e. cc)
     (λ T is.
-    let a : AgreeWith by t deals (Some T) = subst (λ o. AgreeWith by t deals o) is (all t) in
-    if_refused P refusal.NotYours (not (T.by == by)) _ (λ e. cc)
+    let a : AgreeWith actor t deals (Some T) = subst (λ o. AgreeWith actor t deals o) is (all t) in
+    if_refused P refusal.NotYours (not (T.by == actor)) _ (λ e. cc)
     (λ own.
-    let m = a.0 (not-false (T.by == by) own) in
+    let m = a.0 (not-false (T.by == actor) own) in
     if_refused P refusal.NotOpened (not T.opened) _ (λ e. cc)
     (λ opened. if_refused P refusal.ShardGone (not (is_listed_key log c T.key)) _ (λ e. cc)
     (λ listed. if_tested P refusal.TooManyPending (nat_le PENDING_READS (pending T)) _
     (λ many e.
     as_many PENDING_READS (length (reads_in t deals)) (length T.reads) (gives_in t deals) T.given (omega arith)
-    (sym (length_done (reads_in t deals)) ∙ ap length m.0) m.1 (at_least PENDING_READS (pending T) many))
+    (sym (length_map (reads_in t deals)) ∙ ap length m.0) m.1 (le_so PENDING_READS (pending T) many))
     (λ few. if_refused P (refusal.OutOfPlace (reach T)) (not (position == reach T)) _ (λ e. cc) (λ in_place e. cc))))))
 
 too_many : (most n g r : ℕ) → n < most → r ≡ g + n → most + g ≤ r → ⊥
 too_many most n g r few all many = omega arith
 
--- If a consumer's record has the accepted reads of the consumer's tenure in a history, and as many accepted Gives, then
--- the consumer's next Read isn't refused with TooManyPending (`IsNeverFull`).
 pub never_full : IsNeverFull
-never_full by at counter t position limit h made past step next told =
+never_full actor moment counter t position limit h made past step next is_told =
     let r = reads_filling made (stage_after made past) counter t position limit next in
     let ws = r.1 in
     let fewer : length ws < PENDING_READS = subst HasFewWaiting r.2 (room_after made past) in
     let stands =
     subst (λ stage. Holds made stage (reads_after made past) (gives_after made past) (calls_after made past)) r.2
     (holds made past) in
-    let deals = deals_of by h in
-    let turn : Turn = record { by = by; at = at; what = command.Read t position limit } in
+    let deals = deals_of actor h in
+    let turn : Turn = record { by = actor; at = moment; what = command.Read t position limit } in
     let c = clock_of (turn ∷ h) in
     let many : answer h turn ≡ Err refusal.TooManyPending → PENDING_READS + gives_in t deals ≤ length (reads_in t deals)
-    = leads_so (IsManyIfRefused t deals) (read (journal h) c by t position limit)
-    (read_told by c t position limit deals (journal h) (agree by h)) in
+    = leads_so (IsManyIfRefused t deals) (read (journal h) c actor t position limit)
+    (read_told actor c t position limit deals (journal h) (agree actor h)) in
     let reads : length (reads_in t deals) ≡ length stands.done + length ws
     = ap (λ n. length (reads_in n deals)) (sym r.3) ∙ ap length step.reads ∙ ap length stands.all
     ∙ length-append stands.done ws in
     let gives : gives_in t deals ≡ length stands.done = ap (λ n. gives_in n deals) (sym r.3) ∙ step.gives
     ∙ sym stands.count in
     too_many PENDING_READS (length ws) (gives_in t deals) _ fewer (reads ∙ ap (λ n. n + length ws) (sym gives))
-    (many told)
+    (many is_told)

@@ -57,7 +57,7 @@ enum Fetching {
 }
 
 /// Returns what the consumer does after `answer`, the answer to a Read.
-fn fetched_of(answer: Answer) -> Fetching
+fn fetching_after(answer: Answer) -> Fetching
     ensures { IsFetching answer result }
 {
     match answer {
@@ -213,7 +213,7 @@ fn after_read(ahead: &mut Ahead, limit: u32, reach: u64, answer: Answer) -> (Con
     ensures going { over_at (after_read limit reach ahead.old answer) ≡ None }
     ensures kept { IsKept result.0 ahead.new }
 {
-    match fetched_of(answer) {
+    match fetching_after(answer) {
         Fetching::Read(f, next) => {
             let filled = ahead.stops_filling(&f, limit);
             ahead.add(f);

@@ -1,12 +1,11 @@
--- Each tenure has at most one consumer of a worker, and the record of each consumer has the accepted reads and Gives of
--- its tenure among the worker's commands (`AreGood`). Each kind of event keeps this so.
+-- Each tenure has at most one consumer, whose trace has the tenure's reads and Gives; each event keeps this so.
 use Rattle.std.proofs.Common.{◌≡◌, ℕ, ◌+◌, ◌≤◌, Bool, true, false, List, [], ◌∷◌, ◌++◌, Option, Some, None, Ok, Err}
 use Rattle.std.proofs.Common.{refl, sym, ap, subst, ◌∙◌, arith}
 use Rattle.std.specs.Prelude.{◌==◌, ◌&&◌, ◌||◌, not, cond, if◌then◌else◌, Result}
 use Rattle.std.specs.List.{AllByRecursion, filter, find}
 use Rattle.std.proofs.lemmas.Bool.Decides.{nat_tests}
 use Rattle.std.proofs.lemmas.Bool.{and_right, or_parts}
-use Rattle.kds_base.proofs.Facts.{both_right, equal_so, is_itself}
+use Rattle.kds_base.proofs.Facts.{both_right, equal_so, is_itself, all_append, all_filter}
 use Rattle.kds_defs.specs.declared.command.Command.{Command}
 use Rattle.kds_defs.specs.declared.command.Command.TheVariants as command
 use Rattle.kcl_defs.specs.declared.consumer.Tenancy.{Tenancy}
@@ -33,45 +32,42 @@ use Rattle.kcl_defs.specs.Workers.{id_of_held, pending_of, pending_chore}
 use Rattle.kcl_defs.specs.Workers.{consumed}
 use Rattle.kcl_defs.specs.Plans.{is_due}
 use Rattle.kcl_defs.proofs.StepLemmas.{others_keep, lost_keeps}
-use Rattle.kcl_defs.proofs.KnownLemmas.{InStep, IsAbout, IsQuiet, all_append, all_event, all_filter, all_first}
+use Rattle.kcl_defs.proofs.KnownLemmas.{InStep, IsAbout, IsQuiet, all_event, all_first}
 use Rattle.kcl_defs.proofs.KnownLemmas.{all_with_known, found_times, others, own, quiet, times, times-append}
 use Rattle.kcl_defs.proofs.KnownLemmas.{times-event, times-first, times-parted, times-with_known}
 
 -- ---- The consumers of a worker and its commands
 
--- Whether the answer began the tenure `t`.
+-- Whether the answer began tenure `t`.
 abbrev pub begins : ℕ → Result Reply Refusal → Bool
 begins t (Ok (reply.Taken tenure counter start)) = tenure == t
 begins t (Ok _) = false
 begins t (Err r) = false
 
--- Whether one of the answers began the tenure `t`.
+-- Whether one of the answers began tenure `t`.
 abbrev pub was_taken : ℕ → List Deal → Bool
 was_taken t [] = false
 was_taken t (deal ∷ deals) = begins t deal.answer || was_taken t deals
 
--- If the answer begins a tenure, none of the earlier commands `deals` began, read or gave this tenure.
+-- No earlier command began, read or gave the tenure that the answer begins, if any.
 abbrev pub IsNewTenure : Result Reply Refusal → List Deal → Type 0
 IsNewTenure (Ok (reply.Taken tenure counter start)) deals = (was_taken tenure deals ≡ false)
     × (reads_in tenure deals ≡ []) × (gives_in tenure deals ≡ 0)
 IsNewTenure (Ok _) deals = Unit {0}
 IsNewTenure (Err r) deals = Unit {0}
 
--- Each tenure that an answer begins is new: no command before it began, read or gave this tenure.
+-- Each tenure that an answer begins is new to the commands before.
 abbrev pub AreNewTenures : List Deal → Type 0
 AreNewTenures [] = Unit {0}
 AreNewTenures (deal ∷ deals) = IsNewTenure deal.answer deals × AreNewTenures deals
 
--- Each tenure has at most one of the consumers, retired or not, and has none if no command in `deals` began it. The
--- record of each consumer has the reads and gives of its tenure among `deals` (`InStep`).
+-- Each tenure has at most one consumer, none if no command began it, and each trace agrees with the commands.
 pub record AreGood (deals : List Deal) (consumers retired : List Known) : Type 0 where
   pub apart : (t : ℕ) → times t consumers + times t retired ≤ 1
   pub begun : (t : ℕ) → was_taken t deals ≡ false → times t consumers + times t retired ≡ 0
   pub live : AllByRecursion (InStep deals) consumers
   pub over : AllByRecursion (InStep deals) retired
 
--- If each tenure has at most one consumer and the records agree with the commands (`AreGood`), this is still so after
--- the consumers that are over were retired.
 pub settle_good : (deals : List Deal) (consumers retired : List Known) → AreGood deals consumers retired
     → AreGood deals (filter (λ k. not (is_over k)) consumers) (retired ++ filter is_over consumers)
 settle_good deals consumers retired g = record {
@@ -100,8 +96,6 @@ settle_good deals consumers retired g = record {
         (times t consumers) (times t retired) (times t (retired ++ filter is_over consumers))
         (times-parted t is_over consumers) (times-append t retired (filter is_over consumers)) o
 
--- `AreGood` stays true after the event `e` happened to the consumers for which `test` is true. The event must keep each
--- record in agreement with the commands (`InStep`).
 event_good : (deals : List Deal) (test : Known → Bool) (e : Event) (consumers retired : List Known)
     → ((k : Known) → InStep deals k → InStep deals (with_event e k)) → AreGood deals consumers retired
     → AreGood deals (happens_to test e consumers) retired
@@ -112,8 +106,6 @@ event_good deals test e consumers retired f g = record {
   over = g.over;
 }
 
--- `AreGood` stays true after the event `e` happened to the first consumer for which `test` is true. The event must keep
--- each record in agreement with the commands (`InStep`).
 pub first_good : (deals : List Deal) (test : Known → Bool) (e : Event) (consumers retired : List Known)
     → ((k : Known) → InStep deals k → InStep deals (with_event e k)) → AreGood deals consumers retired
     → AreGood deals (happens_to_first test e consumers) retired
@@ -124,14 +116,12 @@ first_good deals test e consumers retired f g = record {
   over = g.over;
 }
 
--- `AreGood` stays true after the consumers for which `test` is true have learnt that their leases are lost.
 pub lost_good : (deals : List Deal) (test : Known → Bool) (consumers retired : List Known)
     → AreGood deals consumers retired
     → AreGood deals (happens_to test Losing consumers) retired
 lost_good deals test consumers retired g =
     event_good deals test Losing consumers retired (λ k s. lost_keeps deals k.made k.past s) g
 
--- `AreGood` stays true with the command `deal` added, if `deal` has no read and no give of any tenure (`IsQuiet`).
 pub quiet_good : (deal : Deal) (deals : List Deal) (consumers retired : List Known) → IsQuiet deal.what
     → AreGood deals consumers retired → AreGood (deal ∷ deals) consumers retired
 quiet_good deal deals consumers retired is g = record {
@@ -141,8 +131,6 @@ quiet_good deal deals consumers retired is g = record {
   over = quiet deal deals retired is g.over;
 }
 
--- `AreGood` stays true with the command `deal` added, which began a new tenure, and with the new consumer `k` of this
--- tenure. None of the earlier commands may have begun, read or given this tenure.
 pub taken_good : (deal : Deal) (deals : List Deal) (k : Known) (consumers retired : List Known) → IsQuiet deal.what
     → k.past ≡ [] → ((t : ℕ) → begins t deal.answer ≡ (k.made.tenure == t)) → was_taken k.made.tenure deals ≡ false
     → reads_in k.made.tenure deals ≡ [] → gives_in k.made.tenure deals ≡ 0 → AreGood deals consumers retired
@@ -185,8 +173,6 @@ taken_good deal deals k consumers retired is no_past begun_by new no_read no_giv
         (times-with_known t k consumers ∙ ap (λ b. (if b then 1 else 0) + times t consumers) (sym (begun_by t) ∙ n.0))
         (g.begun t n.1)
 
--- `AreGood` stays true after the next command of the consumer of the lease `id`: `deal` is added to the commands, and
--- the answer in `deal` to the consumer's record.
 pub own_good : (id : TenancyId) (deal : Deal) (deals : List Deal) (k : Known) (counter : ℕ)
     (consumers retired : List Known)
     → next_command k.made (stage_of_known k) counter ≡ Some deal.what → IsAbout id.tenure deal.what
@@ -213,34 +199,28 @@ own_good id deal deals k counter consumers retired next is found g = record {
 
 -- ---- The command that waits
 
--- If the chore is one of a consumer (`Consuming` or `Finishing`), the command is this consumer's next one. Otherwise
--- the command is no read and no give.
+-- A consumer's chore has this consumer's next command, and any other chore no read and no give.
 abbrev pub IsOwnCommand : Chore → Command → WorkerState → Type 0
-IsOwnCommand (Consuming id) what w = consumer_command w (known_of id w.consumers) ≡ Some what
-IsOwnCommand (Finishing id) what w = consumer_command w (known_of id w.consumers) ≡ Some what
-IsOwnCommand _ what w = IsQuiet what
+IsOwnCommand (Consuming id) asked w = consumer_command w (known_of id w.consumers) ≡ Some asked
+IsOwnCommand (Finishing id) asked w = consumer_command w (known_of id w.consumers) ≡ Some asked
+IsOwnCommand _ asked w = IsQuiet asked
 
--- If a command waits for its answer, it is the next one of its chore's consumer, or it is no read and no give
--- (`IsOwnCommand`).
+-- A command that waits is its consumer's next one, or no read and no give.
 abbrev pub IsWaitingOk : Option Pending → WorkerState → Type 0
 IsWaitingOk None w = Unit {0}
 IsWaitingOk (Some p) w = IsOwnCommand p.chore p.what w
 
--- If the chore is to give a consumer's batch after a stop (`Finishing`), the next command of this consumer is a Give of
--- the chore's tenure.
+-- For a Give after a stop, the consumer's next command is this Give.
 abbrev pub IsFinishOk : Option Chore → WorkerState → Type 0
 IsFinishOk (Some (Finishing id)) w = consumer_command w (known_of id w.consumers) ≡ Some (command.Give id.tenure)
 IsFinishOk _ w = Unit {0}
 
-own_id : (a b t : ℕ) → ((a == a) && (b == b) && (t == t)) ≡ true
+pub own_id : (a b t : ℕ) → ((a == a) && (b == b) && (t == t)) ≡ true
 own_id a b t = grind (arith, nat_tests)
 
 same_own_id : (k : Known) → same_id (id_of k) (id_of k) ≡ true
 same_own_id k = own_id k.made.key.stream k.made.key.shard k.made.tenure
 
--- Let `k` be the first consumer in `xs` for which `p` is true, and let no other consumer have the tenure of `k`. Then
--- `p` is true of `k`, and `k` is also the first consumer that belongs to the lease of `k` (`known_of`). At least one
--- consumer in `xs` has the tenure of `k`.
 finds : (p : Known → Bool) (k : Known) (xs : List Known) → times k.made.tenure xs ≤ 1 → find p xs ≡ Some k
     → (known_of (id_of k) xs ≡ Some k) × (p k ≡ true) × (1 ≤ times k.made.tenure xs)
 finds p k [] once h = absurd cc
@@ -288,7 +268,6 @@ gives_next : (made : Tenancy) (stage : Stage) (counter : ℕ) → is_giving_stag
 gives_next made (Giving reach waiting asked lost) counter h = refl
 gives_next made _ counter h = absurd cc
 
--- If `k` is the consumer that is found by the lease `id`, the tenure of `k` is that of `id`.
 pub found_tenure : (id : TenancyId) (k : Known) (xs : List Known) → known_of id xs ≡ Some k → k.made.tenure ≡ id.tenure
 found_tenure id k [] h = absurd cc
 found_tenure id k (x ∷ xs) h = head (same_id (id_of x) id) refl h (λ g. found_tenure id k xs g)
@@ -304,8 +283,7 @@ found_tenure id k (x ∷ xs) h = head (same_id (id_of x) id) refl h (λ g. found
 
 -- ---- Along the record
 
--- Each tenure has at most one of the worker's consumers, and the consumers' records agree with the commands `deals`
--- (`AreGood`). If a command waits, it is a consumer's next one, or it is no read and no give.
+-- Consumers agree with the commands, and a command that waits is its consumer's next one or no read and no give.
 pub record IsFine (deals : List Deal) (w : WorkerState) : Type 0 where
   pub good : AreGood deals w.consumers w.retired
   pub waits : IsWaitingOk w.waiting w
@@ -317,8 +295,6 @@ apart_consumers deals w g t = first_le (times t w.consumers) (times t w.retired)
     first_le : (a b : ℕ) → a + b ≤ 1 → a ≤ 1
     first_le a b h = omega arith
 
--- The chore that comes next among the consumers isn't that of a stopped worker (`Finishing`), so nothing is claimed of
--- it.
 finish_consumers : (w : WorkerState) (o : Option Known) → IsFinishOk (Some (consumer_chore o)) w
 finish_consumers w None = tt
 finish_consumers w (Some k) = tt
@@ -349,8 +325,6 @@ finish_stopping deals w (Some k) e g =
     let f = finds is_giving k w.consumers (apart_consumers deals w g k.made.tenure) e in
     ap (λ o. consumer_command w o) f.0 ∙ gives_next k.made (stage_of_known k) (counter_of (id_of k) w.held) f.1
 
--- If the worker's next chore is the Give of a consumer's batch after a stop, the next command of this consumer is a
--- Give of the chore's tenure (`IsFinishOk`).
 pub finish_chore : (deals : List Deal) (failover now : ℕ) (w : WorkerState) (round : Round)
     → AreGood deals w.consumers w.retired → IsFinishOk (chore_from failover now w round) w
 finish_chore deals failover now w AtSurvey g = tt
@@ -365,16 +339,13 @@ finish_chore deals failover now w AtStopping g = finish_stopping deals w (find i
 pending_consumer : (w : WorkerState) (id : TenancyId) (o : Option Command)
     → consumer_command w (known_of id w.consumers) ≡ o → IsWaitingOk (pending_of (Consuming id) o) w
 pending_consumer w id None e = tt
-pending_consumer w id (Some what) e = e
+pending_consumer w id (Some asked) e = e
 
--- The command of the next chore may wait: it is the next one of the chore's consumer, or it is no read and no give
--- (`IsWaitingOk`). If the chore is a Give after a stop, this Give must be the next command of the chore's consumer
--- (`IsFinishOk`).
 pub pending_ok : (made : WorkerMade) (w : WorkerState) (o : Option Chore) → IsFinishOk o w
     → IsWaitingOk (pending_chore made w o) w
 pending_ok made w None f = tt
 pending_ok made w (Some Surveying) f = λ u a. (refl, refl)
-pending_ok made w (Some (Syncing (Make key from) syncs takes)) f = λ u a. (refl, refl)
+pending_ok made w (Some (Syncing (Make key origin) syncs takes)) f = λ u a. (refl, refl)
 pending_ok made w (Some (Syncing (Cut key counter) syncs takes)) f = λ u a. (refl, refl)
 pending_ok made w (Some (Taking step takes)) f = λ u a. (refl, refl)
 pending_ok made w (Some (Renewing h)) f = λ u a. (refl, refl)

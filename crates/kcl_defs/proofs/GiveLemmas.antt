@@ -1,4 +1,4 @@
--- If a Give of an actor is refused, each earlier read of the Give's tenure among the actor's turns is given already.
+-- If a Give is refused, each earlier read of its tenure by the same actor is given already.
 use Rattle.std.proofs.Common.{◌≡◌, ℕ, suc, ◌-◌, ◌≤◌, Bool, true, false, List, [], ◌∷◌, length, Option, Some, None, Err}
 use Rattle.std.proofs.Common.{refl, sym, ap, subst, arith}
 use Rattle.std.specs.Prelude.{◌==◌, cond, if◌then◌else◌, not, map, Result}
@@ -19,21 +19,19 @@ use Rattle.kds_defs.specs.Leases.{tenure, pending}
 use Rattle.kds_defs.specs.LeaseCommands.{give}
 use Rattle.kcl_defs.specs.Lives.{Deal, deals_of, reads_in, gives_in}
 use Rattle.kcl_defs.specs.WorkerLives.{read_done}
-use Rattle.kcl_defs.proofs.DealLemmas.{AgreeWith, AllAgree, agree}
+use Rattle.kcl_defs.proofs.DealLemmas.{AgreeWith, AllAgree, agree, own_actor}
 
--- If the command is a Give and is refused, each read of its tenure among `deals` is given: there are no more reads of
--- this tenure than accepted Gives.
+-- If a Give is refused, each read of its tenure among `deals` is given.
 abbrev pub IsGiveTaken : Command → Result Reply Refusal → List Deal → Type 0
 IsGiveTaken (command.Give t) (Err r) deals = length (reads_in t deals) ≤ gives_in t deals
 IsGiveTaken _ answer deals = Unit {0}
 
--- Each refused Give among the commands came when each earlier read of its tenure was given already (`IsGiveTaken`).
+-- Each refused Give came when each earlier read of its tenure was given already.
 abbrev pub AreGivesTaken : List Deal → Type 0
 AreGivesTaken [] = Unit {0}
 AreGivesTaken (deal ∷ deals) = IsGiveTaken deal.what deal.answer deals × AreGivesTaken deals
 
--- If a Give of the tenure `t` has the answer `answer` and this is a refusal, each read of this tenure among `deals` is
--- given.
+-- If this answer refuses a Give of tenure `t`, each of the tenure's reads is given.
 abbrev GiveAnswers : ℕ → List Deal → Result Reply Refusal → Type 0
 GiveAnswers t deals answer = IsGiveTaken (command.Give t) answer deals
 
@@ -55,7 +53,7 @@ none_le rs n e = subst (λ xs. length xs ≤ n) (sym e) (zero_le n)
     zero_le : (n : ℕ) → 0 ≤ n
     zero_le n = omega arith
 
-length_map : (xs : List Fetched) → length (map read_done xs) ≡ length xs
+pub length_map : (xs : List Fetched) → length (map read_done xs) ≡ length xs
 length_map [] = refl
 length_map (x ∷ xs) = ap suc (length_map xs)
 
@@ -68,40 +66,38 @@ all_given a b c n g h i j k = small a b c n g h i j (zero_so (c - n) k)
     small : (a b c n g : ℕ) → a ≡ b → g ≡ n → b ≡ c → c - n ≡ 0 → a ≤ g
     small a b c n g h i j k = omega arith
 
-own_actor : (a b d : ℕ) → (a == b) ≡ true → (b == d) ≡ true → (a == d) ≡ true
-own_actor a b d h g = grind (arith, nat_tests)
-
 not_own_actor : (a b d : ℕ) → (a == b) ≡ false → (b == d) ≡ true → (a == d) ≡ false
 not_own_actor a b d h g = grind (arith, nat_tests)
 
-give_taken : (by actor c t : ℕ) (deals : List Deal) (log : Journal) → (actor == by) ≡ true → AllAgree by deals log
+give_taken : (sender actor c t : ℕ) (deals : List Deal) (log : Journal) → (actor == sender) ≡ true
+    → AllAgree sender deals log
     → GiveAnswers t deals (answer_of (give log c actor t))
-give_taken by actor c t deals log own h =
+give_taken sender actor c t deals log own h =
     if_none_so (GiveAnswers t deals) refusal.NoTenure (tenure log t) _
-    (λ e. none_le (reads_in t deals) (gives_in t deals) (subst (λ o. AgreeWith by t deals o) e (h t)).1)
-    (λ T e. let a : AgreeWith by t deals (Some T) = subst (λ o. AgreeWith by t deals o) e (h t) in
+    (λ e. none_le (reads_in t deals) (gives_in t deals) (subst (λ o. AgreeWith sender t deals o) e (h t)).1)
+    (λ T e. let a : AgreeWith sender t deals (Some T) = subst (λ o. AgreeWith sender t deals o) e (h t) in
     if_refused_so (GiveAnswers t deals) refusal.NotYours (not (T.by == actor)) _
     (λ n. none_le (reads_in t deals) (gives_in t deals)
-    (a.1 (not_own_actor T.by actor by (not_true (T.by == actor) n) own)).0)
-    (λ n. let m = a.0 (own_actor T.by actor by (not-false (T.by == actor) n) own) in
+    (a.1 (not_own_actor T.by actor sender (not_true (T.by == actor) n) own)).0)
+    (λ n. let m = a.0 (own_actor T.by actor sender (not-false (T.by == actor) n) own) in
     if_refused_so (GiveAnswers t deals) refusal.NothingPending (pending T == 0) _
     (λ z. all_given (length (reads_in t deals)) (length (map read_done (reads_in t deals))) (length T.reads) T.given
     (gives_in t deals)
     (sym (length_map (reads_in t deals))) m.1 (ap length m.0) z)
     (λ z. tt)))
 
-turn_taken : (by actor c : ℕ) (what : Command) (deals : List Deal) (log : Journal) → (actor == by) ≡ true
-    → AllAgree by deals log → IsGiveTaken what (answer_of (decide log c actor what)) deals
-turn_taken by actor c (command.Give t) deals log own h = give_taken by actor c t deals log own h
-turn_taken by actor c _ deals log own h = tt
+turn_taken : (sender actor c : ℕ) (asked : Command) (deals : List Deal) (log : Journal) → (actor == sender) ≡ true
+    → AllAgree sender deals log → IsGiveTaken asked (answer_of (decide log c actor asked)) deals
+turn_taken sender actor c (command.Give t) deals log own h = give_taken sender actor c t deals log own h
+turn_taken sender actor c _ deals log own h = tt
 
-turns_taken : (by : ℕ) (turn : Turn) (h : List Turn) (b : Bool) → (turn.by == by) ≡ b → AreGivesTaken (deals_of by h)
-    → AreGivesTaken (cond b (record { what = turn.what; answer = answer h turn } ∷ deals_of by h) (deals_of by h))
-turns_taken by turn h true e taken =
-    (turn_taken by turn.by (clock (turn ∷ h)) turn.what (deals_of by h) (journal h) e (agree by h), taken)
-turns_taken by turn h false e taken = taken
+turns_taken : (actor : ℕ) (turn : Turn) (h : List Turn) (b : Bool) → (turn.by == actor) ≡ b
+    → AreGivesTaken (deals_of actor h)
+    → AreGivesTaken (cond b (record { what = turn.what; answer = answer h turn } ∷ deals_of actor h) (deals_of actor h))
+turns_taken actor turn h true e taken =
+    (turn_taken actor turn.by (clock (turn ∷ h)) turn.what (deals_of actor h) (journal h) e (agree actor h), taken)
+turns_taken actor turn h false e taken = taken
 
--- Each refused Give of the actor `by` in the history `h` came when each earlier read of its tenure was given already.
-pub gives_taken : (by : ℕ) (h : List Turn) → AreGivesTaken (deals_of by h)
-gives_taken by [] = tt
-gives_taken by (turn ∷ h) = turns_taken by turn h (turn.by == by) refl (gives_taken by h)
+pub gives_taken : (actor : ℕ) (h : List Turn) → AreGivesTaken (deals_of actor h)
+gives_taken actor [] = tt
+gives_taken actor (turn ∷ h) = turns_taken actor turn h (turn.by == actor) refl (gives_taken actor h)

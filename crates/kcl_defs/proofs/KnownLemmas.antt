@@ -1,12 +1,11 @@
--- Lemmas on lists of a worker's consumers: how many of them have a tenure after a change of the list, and which facts
--- about all of them stay true. Also, the consumers' records still agree with the commands (`InStep`) after a command of
--- one of the consumers.
+-- Lists of a worker's consumers: their number per tenure, what stays true of all, and that traces agree.
 use Rattle.std.proofs.Common.{◌≡◌, ℕ, ◌+◌, ◌≤◌, Bool, true, false, List, [], ◌∷◌, ◌++◌, Some}
 use Rattle.std.proofs.Common.{refl, ap, subst, arith}
 use Rattle.std.specs.Prelude.{◌==◌, not, cond, if◌then◌else◌, Result}
 use Rattle.std.specs.List.{AllByRecursion, filter}
 use Rattle.std.proofs.lemmas.Bool.Decides.{nat_tests}
-use Rattle.kds_base.proofs.Facts.{both_right}
+use Rattle.std.proofs.lemmas.Option.{same_Some}
+use Rattle.kds_base.proofs.Facts.{both_right, all_weaker}
 use Rattle.kds_defs.specs.declared.command.Command.{Command}
 use Rattle.kds_defs.specs.declared.command.Command.TheVariants as command
 use Rattle.kcl_defs.specs.declared.consumer.Tenancy.{Tenancy}
@@ -26,17 +25,15 @@ use Rattle.kcl_defs.proofs.StepLemmas.{others_keep, own_keeps}
 
 -- ---- How often a tenure is among consumers
 
--- How many of the consumers have the tenure `t`.
+-- How many of the consumers have tenure `t`.
 abbrev pub times : ℕ → List Known → ℕ
 times t [] = 0
 times t (k ∷ known) = (if k.made.tenure == t then 1 else 0) + times t known
 
--- The record of the consumer `k` agrees with the commands `deals`: it has the accepted reads and the number of accepted
--- Gives of its tenure among them.
+-- The consumer's trace has the accepted reads and Gives of its tenure among `deals`.
 abbrev pub InStep : List Deal → Known → Type 0
 InStep deals k = IsInStep deals k.made k.past
 
--- As many consumers of the tenure `t` are in `xs ++ ys` as in `xs` and `ys` together.
 pub times-append : (t : ℕ) (xs ys : List Known) → times t (xs ++ ys) ≡ times t xs + times t ys
 times-append t [] ys = zero_plus (times t ys)
   where
@@ -48,8 +45,6 @@ times-append t (k ∷ xs) ys =
     plus : (a b c d : ℕ) → d ≡ b + c → a + d ≡ (a + b) + c
     plus a b c d h = omega arith
 
--- The number of consumers of the tenure `t` in `xs` is the number of those for which `p` is false plus the number of
--- those for which `p` is true.
 pub times-parted : (t : ℕ) (p : Known → Bool) (xs : List Known)
     → times t (filter (λ k. not (p k)) xs) + times t (filter p xs) ≡ times t xs
 times-parted t p [] = refl
@@ -69,7 +64,6 @@ times-parted t p (k ∷ xs) = parted (p k) (times-parted t p xs)
         left : (a b c d : ℕ) → b + c ≡ d → (a + b) + c ≡ a + d
         left a b c d h = omega arith
 
--- An event that happens to the consumers for which `test` is true doesn't change how many have the tenure `t`.
 pub times-event : (t : ℕ) (test : Known → Bool) (e : Event) (xs : List Known)
     → times t (happens_to test e xs) ≡ times t xs
 times-event t test e [] = refl
@@ -80,7 +74,6 @@ times-event t test e (k ∷ xs) = head (test k) (times-event t test e xs)
     head true h = ap (λ n. (if k.made.tenure == t then 1 else 0) + n) h
     head false h = ap (λ n. (if k.made.tenure == t then 1 else 0) + n) h
 
--- An event that happens to the first consumer for which `test` is true doesn't change how many have the tenure `t`.
 pub times-first : (t : ℕ) (test : Known → Bool) (e : Event) (xs : List Known)
     → times t (happens_to_first test e xs) ≡ times t xs
 times-first t test e [] = refl
@@ -91,7 +84,6 @@ times-first t test e (k ∷ xs) = head (test k) (times-first t test e xs)
     head true h = refl
     head false h = ap (λ n. (if k.made.tenure == t then 1 else 0) + n) h
 
--- With the consumer `k` inserted in order, as many consumers have the tenure `t` as with `k` added in front.
 pub times-with_known : (t : ℕ) (k : Known) (xs : List Known) → times t (with_known k xs) ≡ times t (k ∷ xs)
 times-with_known t k [] = refl
 times-with_known t k (x ∷ xs) = head (is_before_id (id_of k) (id_of x)) (times-with_known t k xs)
@@ -107,23 +99,6 @@ times-with_known t k (x ∷ xs) = head (is_before_id (id_of k) (id_of x)) (times
 
 -- ---- Facts about all consumers of a list
 
--- If `P` holds of all consumers in `xs` and of all in `ys`, it holds of all in `xs ++ ys`.
-pub all_append : (P : Known → Type 0) (xs ys : List Known) → AllByRecursion P xs → AllByRecursion P ys
-    → AllByRecursion P (xs ++ ys)
-all_append P [] ys h g = g
-all_append P (x ∷ xs) ys h g = (h.0, all_append P xs ys h.1 g)
-
--- If `P` holds of all consumers in `xs`, it holds of all those for which `p` is true.
-pub all_filter : (P : Known → Type 0) (p : Known → Bool) (xs : List Known) → AllByRecursion P xs
-    → AllByRecursion P (filter p xs)
-all_filter P p [] h = tt
-all_filter P p (x ∷ xs) h = head (p x) (all_filter P p xs h.1)
-  where
-    head : (b : Bool) → AllByRecursion P (filter p xs) → AllByRecursion P (cond b (x ∷ filter p xs) (filter p xs))
-    head true g = (h.0, g)
-    head false g = g
-
--- If `P` holds of `k` and of all consumers in `xs`, it holds of all after `k` was inserted in order.
 pub all_with_known : (P : Known → Type 0) (k : Known) (xs : List Known) → P k → AllByRecursion P xs
     → AllByRecursion P (with_known k xs)
 all_with_known P k [] p h = (p, tt)
@@ -134,8 +109,6 @@ all_with_known P k (x ∷ xs) p h = head (is_before_id (id_of k) (id_of x)) (all
     head true g = (p, (h.0, h.1))
     head false g = (h.0, g)
 
--- If `P` holds of all consumers in `xs` and the event `e` keeps it true, it holds of all after `e` happened to those
--- for which `test` is true.
 pub all_event : (P : Known → Type 0) (test : Known → Bool) (e : Event) (xs : List Known)
     → ((k : Known) → P k → P (with_event e k)) → AllByRecursion P xs → AllByRecursion P (happens_to test e xs)
 all_event P test e [] f h = tt
@@ -145,8 +118,6 @@ all_event P test e (k ∷ xs) f h = (head (test k), all_event P test e xs f h.1)
     head true = f k h.0
     head false = h.0
 
--- If `P` holds of all consumers in `xs` and the event `e` keeps it true, it holds of all after `e` happened to the
--- first one for which `test` is true.
 pub all_first : (P : Known → Type 0) (test : Known → Bool) (e : Event) (xs : List Known)
     → ((k : Known) → P k → P (with_event e k)) → AllByRecursion P xs → AllByRecursion P (happens_to_first test e xs)
 all_first P test e [] f h = tt
@@ -157,43 +128,33 @@ all_first P test e (k ∷ xs) f h = head (test k) (all_first P test e xs f h.1)
     head true rest = (f k h.0, h.1)
     head false rest = (h.0, rest)
 
--- If `P` implies `Q` and holds of all consumers in `xs`, `Q` holds of all of them.
-pub all_map : (P Q : Known → Type 0) (xs : List Known) → ((k : Known) → P k → Q k) → AllByRecursion P xs
-    → AllByRecursion Q xs
-all_map P Q [] f h = tt
-all_map P Q (x ∷ xs) f h = (f x h.0, all_map P Q xs f h.1)
-
 -- ---- What a command is about
 
 -- The command has no read and no give of any tenure, whatever its answer is.
 abbrev pub IsQuiet : Command → Type 0
-IsQuiet what = (u : ℕ) (a : Result Reply Refusal) → (reads_of u what a ≡ []) × (gives_of u what a ≡ 0)
+IsQuiet asked = (u : ℕ) (a : Result Reply Refusal) → (reads_of u asked a ≡ []) × (gives_of u asked a ≡ 0)
 
--- The command has no read and no give of another tenure than `t`, whatever its answer is.
+-- The command has no read and no give of a tenure other than `t`, whatever its answer is.
 abbrev pub IsAbout : ℕ → Command → Type 0
-IsAbout t what = (u : ℕ) → (u == t) ≡ false → (a : Result Reply Refusal) → (reads_of u what a ≡ [])
-    × (gives_of u what a ≡ 0)
+IsAbout t asked = (u : ℕ) → (u == t) ≡ false → (a : Result Reply Refusal) → (reads_of u asked a ≡ [])
+    × (gives_of u asked a ≡ 0)
 
-same_command : (a b : Command) → Some a ≡ Some b → a ≡ b
-same_command a b e = cc
-
-flip : (t u : ℕ) → (u == t) ≡ false → (t == u) ≡ false
+pub flip : (t u : ℕ) → (u == t) ≡ false → (t == u) ≡ false
 flip t u h = grind (arith, nat_tests)
 
-about_as : (t : ℕ) (given what : Command) → Some given ≡ Some what → IsAbout t given → IsAbout t what
-about_as t given what e h = subst (λ w. IsAbout t w) (same_command given what e) h
+about_as : (t : ℕ) (request asked : Command) → Some request ≡ Some asked → IsAbout t request → IsAbout t asked
+about_as t request asked e h = subst (λ w. IsAbout t w) (same_Some request asked e) h
 
--- The command that comes next for a consumer has no read and no give of another tenure than the consumer's.
-pub about : (made : Tenancy) (stage : Stage) (counter : ℕ) (what : Command)
-    → next_command made stage counter ≡ Some what → IsAbout made.tenure what
-about made Opening counter what e = about_as made.tenure _ what e (λ u n a. (refl, refl))
-about made (Filling reach waiting) counter what e =
-    about_as made.tenure _ what e (λ u n a. (ap (λ b. cond b (read_in a) []) (flip made.tenure u n), refl))
-about made (Giving reach waiting asked lost) counter what e =
-    about_as made.tenure _ what e (λ u n a. (refl, ap (λ b. cond b (give_in a) 0) (flip made.tenure u n)))
-about made (Marking reach waiting to) counter what e = about_as made.tenure _ what e (λ u n a. (refl, refl))
-about made MarkingEnd counter what e = about_as made.tenure _ what e (λ u n a. (refl, refl))
-about made _ counter what e = absurd cc
+pub about : (made : Tenancy) (stage : Stage) (counter : ℕ) (request : Command)
+    → next_command made stage counter ≡ Some request → IsAbout made.tenure request
+about made Opening counter request e = about_as made.tenure _ request e (λ u n a. (refl, refl))
+about made (Filling reach waiting) counter request e =
+    about_as made.tenure _ request e (λ u n a. (ap (λ b. cond b (read_in a) []) (flip made.tenure u n), refl))
+about made (Giving reach waiting asked lost) counter request e =
+    about_as made.tenure _ request e (λ u n a. (refl, ap (λ b. cond b (give_in a) 0) (flip made.tenure u n)))
+about made (Marking reach waiting target) counter request e = about_as made.tenure _ request e (λ u n a. (refl, refl))
+about made MarkingEnd counter request e = about_as made.tenure _ request e (λ u n a. (refl, refl))
+about made _ counter request e = absurd cc
 
 -- ---- Commands of one consumer
 
@@ -203,8 +164,6 @@ no_more m n = omega arith
 rest_none : (m : ℕ) → 0 + m ≡ 0 → m ≡ 0
 rest_none m n = omega arith
 
--- Suppose that no consumer in `xs` has the tenure `t`, and that the command `deal` has no read and no give of another
--- tenure. Then the records of the consumers in `xs` still agree with the commands (`InStep`) after `deal`.
 pub others : (t : ℕ) (deal : Deal) (deals : List Deal) (xs : List Known) → IsAbout t deal.what → times t xs ≡ 0
     → AllByRecursion (InStep deals) xs → AllByRecursion (InStep (deal ∷ deals)) xs
 others t deal deals [] is none h = tt
@@ -217,15 +176,12 @@ others t deal deals (k ∷ xs) is none h = head (k.made.tenure == t) refl none (
         let q = is k.made.tenure e deal.answer in
         (others_keep deal deals k.made k.past q.0 q.1 h.0, rest (rest_none (times t xs) n))
 
--- The records of the consumers in `xs` still agree with the commands (`InStep`) after the command `deal`, which is no
--- read and no give.
 pub quiet : (deal : Deal) (deals : List Deal) (xs : List Known) → IsQuiet deal.what → AllByRecursion (InStep deals) xs
     → AllByRecursion (InStep (deal ∷ deals)) xs
 quiet deal deals xs is h =
-    all_map (InStep deals) (InStep (deal ∷ deals)) xs (λ k s. let q = is k.made.tenure deal.answer in
-    others_keep deal deals k.made k.past q.0 q.1 s) h
+    all_weaker (InStep deals) (InStep (deal ∷ deals)) (λ k s. let q = is k.made.tenure deal.answer in
+    others_keep deal deals k.made k.past q.0 q.1 s) xs h
 
--- If a consumer of the lease `id` is found in `xs`, at least one consumer in `xs` has the tenure of `id`.
 pub found_times : (id : TenancyId) (k : Known) (xs : List Known) → known_of id xs ≡ Some k → 1 ≤ times id.tenure xs
 found_times id k [] h = absurd cc
 found_times id k (x ∷ xs) h = head (same_id (id_of x) id) refl h (λ g. found_times id k xs g)
@@ -243,9 +199,6 @@ found_times id k (x ∷ xs) h = head (same_id (id_of x) id) refl h (λ g. found_
         (both_right _ (x.made.tenure == id.tenure) e)
     head false e g rest = at_least (if x.made.tenure == id.tenure then 1 else 0) (times id.tenure xs) 0 (rest g)
 
--- The records of all consumers in `xs` still agree with the commands (`InStep`) after the next command `deal` of the
--- consumer of the lease `id`, and after this consumer took the answer. At most one consumer in `xs` may have the tenure
--- of `id`.
 pub own : (id : TenancyId) (deal : Deal) (deals : List Deal) (k : Known) (counter : ℕ) (xs : List Known)
     → next_command k.made (stage_of_known k) counter ≡ Some deal.what → IsAbout id.tenure deal.what
     → times id.tenure xs ≤ 1 → known_of id xs ≡ Some k → AllByRecursion (InStep deals) xs

@@ -1,6 +1,4 @@
--- The calls of a consumer's processor fit the reads and gives in the consumer's record (`IsLife`). This is proved along
--- the record: at each event, the reads are the given ones followed by the waiting ones. The calls are those for the
--- given reads, followed by the few that came since (`Stands`).
+-- A processor's calls fit the reads and gives in its consumer's trace, by induction over the trace.
 use Rattle.std.proofs.Common.{◌≡◌, ℕ, ◌+◌, Bool, true, false, List, [], ◌∷◌, ◌++◌, length, take, drop, Option, Some}
 use Rattle.std.proofs.Common.{None, Ok, Err, refl, sym, ap, subst, ◌∙◌, arith, inl, inr, append_assoc, length-append}
 use Rattle.std.specs.Prelude.{cond, if◌then◌else◌, not, reverse, Result}
@@ -28,13 +26,12 @@ use Rattle.kcl_defs.specs.Lives.{IsEnding, Goes_on, Ended, Left, Ended_and_left,
 
 -- ---- Definitions for the proof
 
--- The calls at the end of a processor's calls after which LeaseLost may still follow: none, or ShardEnded alone.
+-- The endings after which LeaseLost may still follow.
 pub data IsOpenEnding : List Call → Type 0 where
   Open : IsOpenEnding []
   Open_ended : IsOpenEnding (call.ShardEnded ∷ [])
 
--- The reads are the given ones (`done`), followed by the waiting ones (`waiting`). The calls are, in order: Initialize,
--- a Process call for each given batch that isn't empty, `handed`, and `ending`. `calls` has the newest call first.
+-- Given reads come before waiting ones; calls are Initialize, Process for given batches, `handed` and `ending`.
 pub record Stands (made : Tenancy) (waiting : List Fetched) (handed ending : List Call) (reads : List Fetched)
     (gives : ℕ) (calls : List Call) : Type 0 where
   pub done : List Fetched
@@ -48,16 +45,13 @@ pub record IsNew (reads : List Fetched) (gives : ℕ) (calls : List Call) : Type
   pub none_given : gives ≡ 0
   pub none_called : calls ≡ []
 
--- The reads are the given ones, followed by some that wait. The calls are Initialize, the Process calls for the given
--- batches, and `ending` (`Stands`), so no waiting batch was handed over.
+-- The reads are given ones and some that wait, and no waiting batch was handed over.
 pub record StandsSomehow (made : Tenancy) (ending : List Call) (reads : List Fetched) (gives : ℕ) (calls : List Call) :
     Type 0 where
   pub waiting : List Fetched
   pub stands : Stands made waiting [] ending reads gives calls
 
--- The reads and calls of a consumer that leaves, before its processor is told that the lease is lost. The reads are the
--- given ones, followed by some that wait. At most the first waiting batch was handed over, and LeaseLost may still
--- follow.
+-- A consumer that leaves has handed over at most the first waiting batch, and LeaseLost may follow.
 pub record StandsLeaving (made : Tenancy) (reads : List Fetched) (gives : ℕ) (calls : List Call) : Type 0 where
   pub waiting : List Fetched
   pub handed : List Call
@@ -66,42 +60,36 @@ pub record StandsLeaving (made : Tenancy) (reads : List Fetched) (gives : ℕ) (
   pub waits : IsWaiting handed waiting
   pub opens : IsOpenEnding ending
 
--- The Process call that hands over the first of the batches. There is no call if this batch is empty or the list has no
--- batch.
+-- The Process call for the first batch; none if it is empty or there is no batch.
 abbrev pub handed_of : List Fetched → List Call
 handed_of [] = []
 handed_of (f ∷ waiting) = processed (f ∷ [])
 
--- The list has at least one read.
+-- There is at least one read.
 abbrev pub IsNotNone : List Fetched → Type 0
 IsNotNone [] = ⊥
 IsNotNone (f ∷ waiting) = Unit {0}
 
--- The reads and calls in the stage `Giving`: at least one batch waits, and the first one was handed over, unless it is
--- empty. No later one was handed over.
+-- In `Giving`, a batch waits, and only the first one was handed over, unless it is empty.
 pub record StandsGiving (made : Tenancy) (waiting : List Fetched) (reads : List Fetched) (gives : ℕ)
     (calls : List Call) : Type 0 where
   pub some : IsNotNone waiting
   pub stands : Stands made waiting (handed_of waiting) [] reads gives calls
 
--- The reads and calls in the stage `Holding`: the first of the waiting batches isn't empty, and no waiting batch was
--- handed over.
+-- In `Holding`, the first waiting batch isn't empty, and no waiting batch was handed over.
 pub record StandsHolding (made : Tenancy) (waiting : List Fetched) (reads : List Fetched) (gives : ℕ)
     (calls : List Call) : Type 0 where
   pub some : first_has_records waiting ≡ true
   pub stands : Stands made waiting [] [] reads gives calls
 
--- The reads of a consumer, the number of its gives and the calls of its processor fit the stage. In `Opening` and
--- `Starting` there are none of these yet. In the stages `Filling` to `Leaving`, the reads are the given ones followed
--- by the waiting ones, and the calls are those for the given ones, followed by what the stage allows (`Stands`). In
--- `Over` the calls fit the reads and gives (`IsLife`).
+-- The reads, gives and calls fit the consumer's stage.
 abbrev pub Holds : Tenancy → Stage → List Fetched → ℕ → List Call → Type 0
 Holds made Opening reads gives calls = IsNew reads gives calls
 Holds made Starting reads gives calls = IsNew reads gives calls
 Holds made (Filling reach waiting) reads gives calls = Stands made waiting [] [] reads gives calls
 Holds made (Holding reach waiting) reads gives calls = StandsHolding made waiting reads gives calls
 Holds made (Giving reach waiting asked lost) reads gives calls = StandsGiving made waiting reads gives calls
-Holds made (Marking reach waiting to) reads gives calls = Stands made waiting [] [] reads gives calls
+Holds made (Marking reach waiting target) reads gives calls = Stands made waiting [] [] reads gives calls
 Holds made Ending reads gives calls = StandsSomehow made [] reads gives calls
 Holds made MarkingEnd reads gives calls = StandsSomehow made (call.ShardEnded ∷ []) reads gives calls
 Holds made (Leaving why) reads gives calls = StandsLeaving made reads gives calls
@@ -109,15 +97,14 @@ Holds made (Over why) reads gives calls = IsLife made reads gives calls
 
 -- ---- Small steps
 
--- If `P` holds of the reads `reads` and the number `gives`, it still holds with no read and no give added.
-still : (P : List Fetched → ℕ → Type 0) (reads : List Fetched) (gives : ℕ) → P reads gives → P (reads ++ []) (gives + 0)
+pub still : (P : List Fetched → ℕ → Type 0) (reads : List Fetched) (gives : ℕ) → P reads gives
+    → P (reads ++ []) (gives + 0)
 still P reads gives h =
     let e : gives ≡ gives + 0 = omega arith in
     let Q : List Fetched → Type 0 = λ rs. P rs (gives + 0) in
     let R : ℕ → Type 0 = λ n. P reads n in
     subst Q (sym (append-nil reads)) (subst R e h)
 
--- If the call `c` is made after the calls `calls`, `c` is the last one in the order in which the calls were made.
 more_order : (c first : Call) (calls given handed ending : List Call)
     → reverse calls ≡ first ∷ (given ++ (handed ++ ending))
     → reverse (c ∷ calls) ≡ first ∷ (given ++ (handed ++ (ending ++ (c ∷ []))))
@@ -127,8 +114,6 @@ more_order c first calls given handed ending h =
     ∙ ap (λ xs. first ∷ xs) (append_assoc given (handed ++ ending) (c ∷ [])
     ∙ ap (λ xs. given ++ xs) (append_assoc handed ending (c ∷ [])))
 
--- If the calls are those for the given reads, `handed` and `ending` (`Stands`), then after the call `c` they are those
--- with `c` added at the end of `ending`.
 pub with_end : (made : Tenancy) (c : Call) (waiting : List Fetched) (handed ending : List Call) (reads : List Fetched)
     (gives : ℕ) (calls : List Call) → Stands made waiting handed ending reads gives calls
     → Stands made waiting handed (ending ++ (c ∷ [])) reads gives (c ∷ calls)
@@ -139,8 +124,6 @@ with_end made c waiting handed ending reads gives calls h = record {
   in_order = more_order c (call.Initialize made.key made.start) calls (processed h.done) handed ending h.in_order;
 }
 
--- Suppose that the calls are those for the given reads, `handed` and `ending` (`Stands`). If `handed` hands over at
--- most the first waiting batch, and `ending` is an allowed ending, the calls fit the reads (`HasBegun`).
 form : (made : Tenancy) (waiting : List Fetched) (handed ending : List Call) (reads : List Fetched) (gives : ℕ)
     (calls : List Call) → Stands made waiting handed ending reads gives calls → IsWaiting handed waiting
     → IsEnding ending → HasBegun made reads gives calls
@@ -158,15 +141,12 @@ form made waiting handed ending reads gives calls h waits ends =
       ends = ends;
     }
 
--- If the calls are those for the given reads and an allowed ending (`Stands`), they fit the reads (`HasBegun`), and
--- each batch that was handed over is given.
 pub whole : (made : Tenancy) (waiting : List Fetched) (ending : List Call) (reads : List Fetched) (gives : ℕ)
     (calls : List Call) → Stands made waiting [] ending reads gives calls → IsEnding ending
     → (begun : HasBegun made reads gives calls) × (begun.handed ≡ [])
 unfolding form
 whole made waiting ending reads gives calls h ends = (form made waiting [] ending reads gives calls h tt ends, refl)
 
--- If LeaseLost may still follow the calls `ending`, then `ending` with LeaseLost is an allowed ending (`IsEnding`).
 pub left_ending : (ending : List Call) → IsOpenEnding ending → IsEnding (ending ++ (call.LeaseLost ∷ []))
 left_ending [] h = Left
 left_ending (c ∷ cs) Open_ended = Ended_and_left
@@ -177,8 +157,6 @@ open_ending _ Open_ended = Ended
 
 -- ---- Calls
 
--- If nothing was read, given or called yet (`IsNew`), then after the call Initialize the calls are those for no given
--- read, and no batch waits (`Stands`).
 begins : (made : Tenancy) (asked : Ask) (reads : List Fetched) (gives : ℕ) (calls : List Call) → IsNew reads gives calls
     → Stands made [] [] [] reads gives (call.Initialize made.key made.start ∷ calls)
 begins made asked reads gives calls h = record {
@@ -188,15 +166,11 @@ begins made asked reads gives calls h = record {
   in_order = ap (λ cs. reverse (call.Initialize made.key made.start ∷ cs)) h.none_called;
 }
 
--- If the call `c` follows the calls for the given reads as their only ending, it may also count as the call for a
--- waiting batch (`Stands`).
 as_handed : (made : Tenancy) (c : Call) (waiting : List Fetched) (reads : List Fetched) (gives : ℕ) (calls : List Call)
     → Stands made waiting [] (c ∷ []) reads gives calls → Stands made waiting (c ∷ []) [] reads gives calls
 as_handed made c waiting reads gives calls h =
     record { done = h.done; all = h.all; count = h.count; in_order = h.in_order }
 
--- If the reads and calls fit the stage `Holding`, they fit the stage `Giving` after the first of the waiting batches
--- was handed over.
 hands : (made : Tenancy) (waiting : List Fetched) (reads : List Fetched) (gives : ℕ) (calls : List Call)
     → StandsHolding made waiting reads gives calls
     → StandsGiving made waiting reads gives (call.Process (first_batch waiting) ∷ calls)
@@ -238,8 +212,8 @@ called made asked Ending reads gives calls h = ends_shard made reads gives calls
 called made asked (Leaving why) reads gives calls h = leaves made reads gives calls h
 called made asked Opening reads gives calls h = h
 called made asked (Filling reach waiting) reads gives calls h = h
-called made asked (Giving reach waiting to lost) reads gives calls h = h
-called made asked (Marking reach waiting to) reads gives calls h = h
+called made asked (Giving reach waiting target lost) reads gives calls h = h
+called made asked (Marking reach waiting target) reads gives calls h = h
 called made asked MarkingEnd reads gives calls h = h
 called made asked (Over why) reads gives calls h = h
 
@@ -265,27 +239,26 @@ leaving_given : (made : Tenancy) (waiting : List Fetched) (reads : List Fetched)
 leaving_given made waiting reads gives calls h =
     leaving made waiting (handed_of waiting) [] reads gives calls h.stands (waits_handed waiting) Open
 
--- If nothing was read, given or called yet (`IsNew`), the calls fit the reads (`IsLife`): there is no call.
 none_yet : (made : Tenancy) (reads : List Fetched) (gives : ℕ) (calls : List Call) → IsNew reads gives calls
     → IsLife made reads gives calls
 none_yet made reads gives calls h = inl h.none_called
 
-lost_giving : (made : Tenancy) (reach : ℕ) (waiting : List Fetched) (to : Option Target) (reads : List Fetched)
+lost_giving : (made : Tenancy) (reach : ℕ) (waiting : List Fetched) (target : Option Target) (reads : List Fetched)
     (gives : ℕ) (calls : List Call) (b : Bool) → StandsGiving made waiting reads gives calls
-    → Holds made (if b then Giving reach waiting to true else Leaving why.Lost) reads gives calls
-lost_giving made reach waiting to reads gives calls true h = h
-lost_giving made reach waiting to reads gives calls false h = leaving_given made waiting reads gives calls h
+    → Holds made (if b then Giving reach waiting target true else Leaving why.Lost) reads gives calls
+lost_giving made reach waiting target reads gives calls true h = h
+lost_giving made reach waiting target reads gives calls false h = leaving_given made waiting reads gives calls h
 
 lost : (made : Tenancy) (stage : Stage) (reads : List Fetched) (gives : ℕ) (calls : List Call)
     → Holds made stage reads gives calls → Holds made (after_loss stage) reads gives calls
 lost made Opening reads gives calls h = none_yet made reads gives calls h
 lost made Starting reads gives calls h = none_yet made reads gives calls h
-lost made (Giving reach waiting to known) reads gives calls h =
-    lost_giving made reach waiting to reads gives calls (first_has_records waiting) h
+lost made (Giving reach waiting target known) reads gives calls h =
+    lost_giving made reach waiting target reads gives calls (first_has_records waiting) h
 lost made (Over why) reads gives calls h = h
 lost made (Filling reach waiting) reads gives calls h = leaving made waiting [] [] reads gives calls h tt Open
 lost made (Holding reach waiting) reads gives calls h = leaving made waiting [] [] reads gives calls h.stands tt Open
-lost made (Marking reach waiting to) reads gives calls h = leaving made waiting [] [] reads gives calls h tt Open
+lost made (Marking reach waiting target) reads gives calls h = leaving made waiting [] [] reads gives calls h tt Open
 lost made Ending reads gives calls h = leaving made h.waiting [] [] reads gives calls h.stands tt Open
 lost made MarkingEnd reads gives calls h =
     leaving made h.waiting [] (call.ShardEnded ∷ []) reads gives calls h.stands tt Open_ended
@@ -293,8 +266,6 @@ lost made (Leaving why) reads gives calls h = h
 
 -- ---- Answers
 
--- If `f` has the first waiting batch, and no waiting batch was handed over, the reads and calls fit the next stage.
--- This stage is `Giving` if the batch is empty (`b` is true), and `Holding` otherwise.
 fronts_first : (made : Tenancy) (reach : ℕ) (f : Fetched) (waiting : List Fetched) (reads : List Fetched) (gives : ℕ)
     (calls : List Call) (b : Bool) → is_empty f.batch ≡ b → Stands made (f ∷ waiting) [] [] reads gives calls
     → Holds made (if b then Giving reach (f ∷ waiting) None false else Holding reach (f ∷ waiting)) reads gives calls
@@ -310,8 +281,6 @@ fronts made reach [] reads gives calls h = h
 fronts made reach (f ∷ waiting) reads gives calls h =
     fronts_first made reach f waiting reads gives calls (is_empty f.batch) refl h
 
--- If the reads are the given ones followed by the waiting ones (`Stands`), they still are after the read `f`, which is
--- the last of the waiting ones then. The calls stay the same.
 more_waiting : (made : Tenancy) (waiting : List Fetched) (f : Fetched) (reads : List Fetched) (gives : ℕ)
     (calls : List Call) → Stands made waiting [] [] reads gives calls
     → Stands made (waiting ++ (f ∷ [])) [] [] (reads ++ (f ∷ [])) gives calls
@@ -356,8 +325,6 @@ read_answered made reach waiting (Ok _) reads gives calls h = stays made waiting
 read_answered made reach waiting (Err refusal.ShardGone) reads gives calls h = no_room made waiting reads gives calls h
 read_answered made reach waiting (Err _) reads gives calls h = no_room made waiting reads gives calls h
 
--- Suppose that the batch of `f` waits first, and was handed over unless it is empty. After a Give, the read `f` is one
--- of the given ones, and the calls are those for the given ones (`Stands`).
 pub given_on : (made : Tenancy) (f : Fetched) (waiting : List Fetched) (reads : List Fetched) (gives : ℕ)
     (calls : List Call) → Stands made (f ∷ waiting) (processed (f ∷ [])) [] reads gives calls
     → Stands made waiting [] [] (reads ++ []) (gives + 1) calls
@@ -382,30 +349,31 @@ given_on made f waiting reads gives calls h =
     processed_on [] f = refl
     processed_on (x ∷ done) f = processed_on_if x f done (is_empty x.batch) (processed_on done f)
 
-goes_onward : (made : Tenancy) (reach : ℕ) (waiting : List Fetched) (to : Option Target) (reads : List Fetched)
+goes_onward : (made : Tenancy) (reach : ℕ) (waiting : List Fetched) (target : Option Target) (reads : List Fetched)
     (gives : ℕ) (calls : List Call) → Stands made waiting [] [] reads gives calls
-    → Holds made (onward reach waiting to) reads gives calls
+    → Holds made (onward reach waiting target) reads gives calls
 goes_onward made reach waiting None reads gives calls h = fronts made reach waiting reads gives calls h
-goes_onward made reach waiting (Some to) reads gives calls h = h
+goes_onward made reach waiting (Some target) reads gives calls h = h
 
-ends_if : (made : Tenancy) (reach : ℕ) (waiting : List Fetched) (to : Option Target) (reads : List Fetched) (gives : ℕ)
+ends_if : (made : Tenancy) (reach : ℕ) (waiting : List Fetched) (target : Option Target) (reads : List Fetched)
+    (gives : ℕ)
     (calls : List Call) (b : Bool) → Stands made waiting [] [] reads gives calls
-    → Holds made (if b then Ending else onward reach waiting to) reads gives calls
-ends_if made reach waiting to reads gives calls true h = record { waiting = waiting; stands = h }
-ends_if made reach waiting to reads gives calls false h = goes_onward made reach waiting to reads gives calls h
+    → Holds made (if b then Ending else onward reach waiting target) reads gives calls
+ends_if made reach waiting target reads gives calls true h = record { waiting = waiting; stands = h }
+ends_if made reach waiting target reads gives calls false h = goes_onward made reach waiting target reads gives calls h
 
-given_answered : (made : Tenancy) (reach : ℕ) (waiting : List Fetched) (to : Option Target) (known : Bool)
+given_answered : (made : Tenancy) (reach : ℕ) (waiting : List Fetched) (target : Option Target) (known : Bool)
     (answer : Result Reply Refusal) (reads : List Fetched) (gives : ℕ) (calls : List Call)
     → StandsGiving made waiting reads gives calls
-    → Holds made (after_give reach waiting to known answer) (reads ++ []) (gives + give_in answer) calls
-given_answered made reach [] to known answer reads gives calls h = absurd h.some
-given_answered made reach (f ∷ waiting) to true (Ok reply) reads gives calls h =
+    → Holds made (after_give reach waiting target known answer) (reads ++ []) (gives + give_in answer) calls
+given_answered made reach [] target known answer reads gives calls h = absurd h.some
+given_answered made reach (f ∷ waiting) target true (Ok reply) reads gives calls h =
     leaving made waiting [] [] (reads ++ []) (gives + 1) calls (given_on made f waiting reads gives calls h.stands)
     tt Open
-given_answered made reach (f ∷ waiting) to false (Ok reply) reads gives calls h =
-    ends_if made reach waiting to (reads ++ []) (gives + 1) calls f.ended
+given_answered made reach (f ∷ waiting) target false (Ok reply) reads gives calls h =
+    ends_if made reach waiting target (reads ++ []) (gives + 1) calls f.ended
     (given_on made f waiting reads gives calls h.stands)
-given_answered made reach (f ∷ waiting) to known (Err r) reads gives calls h =
+given_answered made reach (f ∷ waiting) target known (Err r) reads gives calls h =
     still (λ rs n. StandsLeaving made rs n calls) reads gives (leaving_given made (f ∷ waiting) reads gives calls h)
 
 mark_refused : (made : Tenancy) (reach : ℕ) (waiting : List Fetched) (reads : List Fetched) (gives : ℕ)
@@ -441,12 +409,12 @@ answered : (made : Tenancy) (answer : Result Reply Refusal) (stage : Stage) (rea
     (gives + gives_at stage (Answered answer)) calls
 answered made answer (Filling reach waiting) reads gives calls h =
     read_answered made reach waiting answer reads gives calls h
-answered made answer (Giving reach waiting to known) reads gives calls h =
-    given_answered made reach waiting to known answer reads gives calls h
+answered made answer (Giving reach waiting target known) reads gives calls h =
+    given_answered made reach waiting target known answer reads gives calls h
 answered made answer Opening reads gives calls h =
     still (λ rs n. Holds made (after_answer made answer Opening) rs n calls) reads gives
     (open_answered made answer reads gives calls h)
-answered made answer (Marking reach waiting to) reads gives calls h =
+answered made answer (Marking reach waiting target) reads gives calls h =
     still (λ rs n. Holds made (after_mark reach waiting answer) rs n calls) reads gives
     (mark_answered made reach waiting answer reads gives calls h)
 answered made answer MarkingEnd reads gives calls h =
@@ -462,26 +430,23 @@ answered made answer (Over why) reads gives calls h = still (λ rs n. Holds made
 
 -- ---- The record
 
--- After the record `past` of a consumer, its reads, the number of its gives and the calls of its processor fit its
--- stage (`Holds`).
+-- The reads, gives and calls in a trace fit the stage after it.
 abbrev HoldsAfter : Tenancy → Past → Type 0
 HoldsAfter made past =
     Holds made (stage_after made past) (reads_after made past) (gives_after made past) (calls_after made past)
 
--- If the reads, gives and calls fit the stage `stage` (`Holds`), they still do after an event in the stage `before`
--- that adds no read and no give.
-quiet : (made : Tenancy) (event : Event) (stage before : Stage) (reads : List Fetched) (gives : ℕ) (calls : List Call)
-    → reads_at before event ≡ [] → gives_at before event ≡ 0 → Holds made stage reads gives calls
-    → Holds made stage (reads ++ reads_at before event) (gives + gives_at before event) calls
-quiet made event stage before reads gives calls r g h =
-    let P : List Fetched → Type 0 = λ rs. Holds made stage (reads ++ rs) (gives + gives_at before event) calls in
+quiet : (made : Tenancy) (event : Event) (stage old : Stage) (reads : List Fetched) (gives : ℕ) (calls : List Call)
+    → reads_at old event ≡ [] → gives_at old event ≡ 0 → Holds made stage reads gives calls
+    → Holds made stage (reads ++ reads_at old event) (gives + gives_at old event) calls
+quiet made event stage old reads gives calls r g h =
+    let P : List Fetched → Type 0 = λ rs. Holds made stage (reads ++ rs) (gives + gives_at old event) calls in
     let Q : ℕ → Type 0 = λ n. Holds made stage (reads ++ []) (gives + n) calls in
     subst P (sym r) (subst Q (sym g) (still (λ rs n. Holds made stage rs n calls) reads gives h))
 
-no_reads : (stage : Stage) (asked : Ask) → (reads_at stage (Called asked) ≡ []) × (reads_at stage Losing ≡ [])
+pub no_reads : (stage : Stage) (asked : Ask) → (reads_at stage (Called asked) ≡ []) × (reads_at stage Losing ≡ [])
     × (gives_at stage (Called asked) ≡ 0) × (gives_at stage Losing ≡ 0)
 no_reads (Filling reach waiting) asked = (refl, refl, refl, refl)
-no_reads (Giving reach waiting to known) asked = (refl, refl, refl, refl)
+no_reads (Giving reach waiting target known) asked = (refl, refl, refl, refl)
 no_reads _ asked = (refl, refl, refl, refl)
 
 happens : (made : Tenancy) (event : Event) (past : Past) → HoldsAfter made past → HoldsAfter made (event ∷ past)
@@ -503,13 +468,10 @@ happens made Losing past h =
     asked : Ask
     asked = ask.None
 
--- After each record of a consumer, its reads, the number of its gives and the calls of its processor fit its stage
--- (`Holds`).
 pub holds : (made : Tenancy) (past : Past) → HoldsAfter made past
 holds made [] = record { none_read = refl; none_given = refl; none_called = refl }
 holds made (event ∷ past) = happens made event past (holds made past)
 
--- If the reads, gives and calls of a consumer fit its stage (`Holds`), the calls fit the reads and gives (`IsLife`).
 formed : (made : Tenancy) (stage : Stage) (reads : List Fetched) (gives : ℕ) (calls : List Call)
     → Holds made stage reads gives calls → IsLife made reads gives calls
 formed made Opening reads gives calls h = none_yet made reads gives calls h
@@ -517,9 +479,9 @@ formed made Starting reads gives calls h = none_yet made reads gives calls h
 formed made (Filling reach waiting) reads gives calls h = inr (form made waiting [] [] reads gives calls h tt Goes_on)
 formed made (Holding reach waiting) reads gives calls h =
     inr (form made waiting [] [] reads gives calls h.stands tt Goes_on)
-formed made (Giving reach waiting to known) reads gives calls h =
+formed made (Giving reach waiting target known) reads gives calls h =
     inr (form made waiting (handed_of waiting) [] reads gives calls h.stands (waits_handed waiting) Goes_on)
-formed made (Marking reach waiting to) reads gives calls h =
+formed made (Marking reach waiting target) reads gives calls h =
     inr (form made waiting [] [] reads gives calls h tt Goes_on)
 formed made Ending reads gives calls h = inr (form made h.waiting [] [] reads gives calls h.stands tt Goes_on)
 formed made MarkingEnd reads gives calls h =
@@ -528,7 +490,6 @@ formed made (Leaving why) reads gives calls h =
     inr (form made h.waiting h.handed h.ending reads gives calls h.stands h.waits (open_ending h.ending h.opens))
 formed made (Over why) reads gives calls h = h
 
--- The calls of a consumer's processor fit the reads and gives in the consumer's record `past` (`IsLife`).
 pub life : (made : Tenancy) (past : Past)
     → IsLife made (reads_after made past) (gives_after made past) (calls_after made past)
 life made past = formed made (stage_after made past) (reads_after made past) (gives_after made past)

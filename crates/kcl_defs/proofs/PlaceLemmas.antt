@@ -30,7 +30,6 @@ module _ {X : Type 0} (key_of : X → ShardRef) where
   rising_more (x ∷ y ∷ xs) zero d within h rising = (h, rising)
   rising_more (x ∷ xs) (suc i) d within h rising = rising_more xs i d (omega arith) h rising
 
-  -- The keys rise from `k` on, and `j` is the index before. If its key comes before the next, they rise from `j` on.
   pub rising_back : (xs : List X) (k j : ℕ) (x : X) → suc j ≡ k → k ≤ length xs → x ≡ slice_index_or xs j x
       → before_next key_of (key_of x) (slice_get xs (j + 1)) ≡ true → AreRising (map key_of (drop k xs))
       → AreRising (map key_of (drop j xs))
@@ -43,7 +42,7 @@ module _ {X : Type 0} (key_of : X → ShardRef) where
 
   -- ---- The index of a key
 
-  -- Whether the key of the item comes before `key`.
+  -- Whether the item's key comes before `key`.
   abbrev pub comes_before : ShardRef → X → Bool
   comes_before key x = is_before (key_of x) key
 
@@ -56,7 +55,6 @@ module _ {X : Type 0} (key_of : X → ShardRef) where
       before_both key (key_of x) (key_of (slice_index_or xs j d)) first
       (all_at (key_of x) xs j d rising.0 rising.1 (omega arith))
 
-  -- If the keys rise, the items before `key` are at the beginning of the list.
   pub partitioned : (key : ShardRef) (xs : List X) → AreRising (map key_of xs) → IsPartitionedBy (comes_before key) xs
   partitioned key [] rising i j d le within is = absurd (omega arith)
   partitioned key (x ∷ xs) rising zero zero d le within is = is
@@ -67,7 +65,6 @@ module _ {X : Type 0} (key_of : X → ShardRef) where
   partitioned key (x ∷ xs) rising (suc i) (suc j) d le within is =
       partitioned key xs rising.1 i j d (omega arith) (omega arith) is
 
-  -- The index up to which the items come before `key` is the key's index.
   pub index_is : (key : ShardRef) (xs : List X) (i : ℕ) → i ≤ length xs
       → IsPartitionPoint (λ x. comes_before key x ≡ true) (λ x. comes_before key x ≡ false) xs i
       → i ≡ insertion_index key_of key xs
@@ -98,26 +95,25 @@ module _ {X : Type 0} (key_of : X → ShardRef) where
 
     first_after : (x : X) (xs : List X) (d : Bool) → is_before (key_of x) key ≡ false → same_key (key_of x) key ≡ d
         → IsBeforeFirst (key_of x) (map key_of xs) → IsBeforeFirst key (map key_of xs)
-    first_after x xs true before same first =
+    first_after x xs true is_earlier same first =
         subst (λ k. IsBeforeFirst k (map key_of xs)) (same_ref (key_of x) key same) first
-    first_after x xs false before same first =
-        before_first key (key_of x) (map key_of xs) (after_else (key_of x) key before same) first
+    first_after x xs false is_earlier same first =
+        before_first key (key_of x) (map key_of xs) (after_else (key_of x) key is_earlier same) first
 
     any_here : (x : X) (xs : List X) (b : Bool) → is_before (key_of x) key ≡ b → AreRising (map key_of (x ∷ xs))
         → list_any test xs ≡ passes test (slice_get xs (insertion_index key_of key xs))
         → (test x || list_any test xs)
         ≡ passes test (slice_get (x ∷ xs) (if b then suc (insertion_index key_of key xs) else 0))
-    any_here x xs true before rising rest =
-        ap (λ b. b || list_any test xs) (fails x (test x) refl (not_same (key_of x) key before)) ∙ rest
-    any_here x xs false before rising rest =
+    any_here x xs true is_earlier rising rest =
+        ap (λ b. b || list_any test xs) (fails x (test x) refl (not_same (key_of x) key is_earlier)) ∙ rest
+    any_here x xs false is_earlier rising rest =
         or_none (test x) (list_any test xs)
-        (none_after xs (first_after x xs (same_key (key_of x) key) before refl rising.0) rising.1)
+        (none_after xs (first_after x xs (same_key (key_of x) key) is_earlier refl rising.0) rising.1)
       where
         or_none : (b c : Bool) → c ≡ false → (b || c) ≡ b
         or_none true c h = refl
         or_none false c h = h
 
-    -- If the keys rise and only items of `key` pass the test, an item passes exactly if that at the key's index does.
     pub any_there : (xs : List X) → AreRising (map key_of xs)
         → list_any test xs ≡ passes test (slice_get xs (insertion_index key_of key xs))
     any_there [] rising = refl
@@ -142,12 +138,10 @@ anywhere_here true rest n l h = is_some_if (nat_lt 0 (suc l)) 0 ∙ lt_zero l
 anywhere_here false rest n l h =
     is_some_if (nat_lt (1 + n) (suc l)) (1 + n) ∙ lt_more n l (nat_lt n l) refl ∙ sym (is_some_if (nat_lt n l) n) ∙ h
 
--- A position is found exactly if an item passes the test.
 pub anywhere : {X : Type 0} (p : X → Bool) (xs : List X) → is_some (position p xs) ≡ list_any p xs
 anywhere p [] = refl
 anywhere p (x ∷ xs) = anywhere_here (p x) (list_any p xs) (position_or_len p xs) (length xs) (anywhere p xs)
 
--- If the item at the index `i` passes the test, an item passes it.
 pub any_from : {X : Type 0} (p : X → Bool) (xs : List X) (i : ℕ) → passes p (slice_get xs i) ≡ true
     → list_any p xs ≡ true
 any_from p [] i h = absurd cc

@@ -4,6 +4,8 @@ use Rattle.std.proofs.Common.{Err, refl, sym, ap, subst, ◌∙◌, arith, inl, 
 use Rattle.std.specs.Prelude.{◌⊎◌, is_some, not, cond, if◌then◌else◌, Result}
 use Rattle.std.specs.List.{AllByRecursion, filter}
 use Rattle.std.proofs.lemmas.Bool.{or_from}
+use Rattle.std.proofs.lemmas.Option.{same_Some}
+use Rattle.kds_base.proofs.Facts.{all_append, all_filter}
 use Rattle.kds_defs.specs.declared.command.Command.{Command}
 use Rattle.kds_defs.specs.declared.command.Turn.{Turn}
 use Rattle.kcl_defs.specs.declared.consumer.Ask.{Ask}
@@ -34,9 +36,9 @@ use Rattle.kcl_defs.proofs.SettledLemmas.{Settles, IsSettled, refused_at, was_re
 use Rattle.kcl_defs.proofs.GiveLemmas.{IsGiveTaken, AreGivesTaken, gives_taken}
 use Rattle.kcl_defs.proofs.DealLemmas.{new_tenures}
 use Rattle.kcl_defs.proofs.TenancyLemmas.{all_both, all_tenures, begun_told}
-use Rattle.kcl_defs.proofs.KnownLemmas.{InStep, all_append, all_event, all_filter, all_first, all_with_known}
+use Rattle.kcl_defs.proofs.KnownLemmas.{InStep, all_event, all_first, all_with_known}
 use Rattle.kcl_defs.proofs.FineLemmas.{AreNewTenures, IsFine, IsOwnCommand, IsWaitingOk}
-use Rattle.kcl_defs.proofs.WorkerLemmas.{all_without, fine, live_served, new_before}
+use Rattle.kcl_defs.proofs.WorkerLemmas.{all_without, fine, live_served, new_before, own_without}
 
 -- ---- A Give of a consumer that has a batch to give isn't refused
 
@@ -44,16 +46,13 @@ more_than : (reads done waiting : List Fetched) (f : Fetched) (gives : ℕ) → 
     → length done ≡ gives → length reads ≤ gives → ⊥
 more_than reads done waiting f gives all count few =
     more (length reads) (length done) (length waiting) gives (ap length all ∙ length-append done (f ∷ waiting)
-    ∙ on (length done) (length waiting)) count few
+    ∙ cases (length done) (length waiting)) count few
   where
-    on : (a b : ℕ) → a + length (f ∷ waiting) ≡ a + (length waiting + 1)
-    on a b = omega arith
+    cases : (a b : ℕ) → a + length (f ∷ waiting) ≡ a + (length waiting + 1)
+    cases a b = omega arith
 
     more : (a b c g : ℕ) → a ≡ b + (c + 1) → b ≡ g → a ≤ g → ⊥
     more a b c g h i j = omega arith
-
-same_command : (a b : Command) → Some a ≡ Some b → a ≡ b
-same_command a b e = cc
 
 giving_waits : (made : Tenancy) (waiting : List Fetched) (reads : List Fetched) (gives : ℕ) (calls : List Call)
     → StandsGiving made waiting reads gives calls → length reads ≤ gives → ⊥
@@ -61,16 +60,17 @@ giving_waits made [] reads gives calls s few = s.some
 giving_waits made (f ∷ waiting) reads gives calls s few =
     more_than reads s.stands.done waiting f gives s.stands.all s.stands.count few
 
-give_accepted : (made : Tenancy) (stage : Stage) (counter : ℕ) (what : Command) (answer : Result Reply Refusal)
-    (deals : List Deal) (calls : List Call) → next_command made stage counter ≡ Some what
-    → IsGiveTaken what answer deals → Holds made stage (reads_in made.tenure deals) (gives_in made.tenure deals) calls
+give_accepted : (made : Tenancy) (stage : Stage) (counter : ℕ) (command : Command) (answer : Result Reply Refusal)
+    (deals : List Deal) (calls : List Call) → next_command made stage counter ≡ Some command
+    → IsGiveTaken command answer deals
+    → Holds made stage (reads_in made.tenure deals) (gives_in made.tenure deals) calls
     → refused_at stage (Answered answer) ≡ false
-give_accepted made (Giving reach waiting asked lost) counter what (Err r) deals calls next taken h =
+give_accepted made (Giving reach waiting asked lost) counter command (Err r) deals calls next taken h =
     let P : Command → Type 0 = λ w. IsGiveTaken w (Err r) deals in
     absurd (giving_waits made waiting (reads_in made.tenure deals) (gives_in made.tenure deals) calls h
-    (subst P (sym (same_command _ what next)) taken))
-give_accepted made (Giving reach waiting asked lost) counter what (Ok reply) deals calls next taken h = refl
-give_accepted made _ counter what answer deals calls next taken h = refl
+    (subst P (sym (same_Some _ command next)) taken))
+give_accepted made (Giving reach waiting asked lost) counter command (Ok reply) deals calls next taken h = refl
+give_accepted made _ counter command answer deals calls next taken h = refl
 
 -- ---- No Give of any consumer was refused
 
@@ -82,23 +82,21 @@ IsUnrefused k = was_refused k.made k.past ≡ false
 abbrev pub HasEnded : Known → Type 0
 HasEnded k = is_over k ≡ true
 
--- No Give of any consumer, retired or not, was refused, and each retired consumer is over.
+-- No Give of any consumer was refused, and each retired one is over.
 pub record AreUnrefused (consumers retired : List Known) : Type 0 where
   pub live : AllByRecursion IsUnrefused consumers
   pub over : AllByRecursion IsUnrefused retired
   pub ended : AllByRecursion HasEnded retired
 
 no_give : (stage : Stage) (asked : Ask) → (refused_at stage (Called asked) ≡ false) × (refused_at stage Losing ≡ false)
-no_give (Giving reach waiting to known) asked = (refl, refl)
+no_give (Giving reach waiting target known) asked = (refl, refl)
 no_give _ asked = (refl, refl)
 
--- If no Give of the consumer `k` was refused, this is still so after a call of its processor has returned.
 pub called_unrefused : (asked : Ask) (k : Known) → IsUnrefused k → IsUnrefused (with_event (Called asked) k)
 called_unrefused asked k h =
     or_from (refused_at (stage_of_known k) (Called asked)) (was_refused k.made k.past)
     (no_give (stage_of_known k) asked).0 h
 
--- If no Give of the consumer `k` was refused, this is still so after a loss of its lease.
 pub lost_unrefused : (k : Known) → IsUnrefused k → IsUnrefused (with_event Losing k)
 lost_unrefused k h = or_from (refused_at (stage_of_known k) Losing) (was_refused k.made k.past)
     (no_give (stage_of_known k) ask.None).1 h
@@ -129,8 +127,6 @@ losing_unrefused test consumers retired u = record {
   ended = u.ended;
 }
 
--- Let the record of the consumer `k` have the reads and gives of its tenure among `deals` (`InStep`). Then these reads
--- and gives and the calls of the consumer's processor fit the consumer's stage (`Holds`).
 step_kept : (deals : List Deal) (k : Known) → InStep deals k
     → Holds k.made (stage_of_known k) (reads_in k.made.tenure deals) (gives_in k.made.tenure deals)
     (calls_after k.made k.past)
@@ -141,44 +137,44 @@ step_kept deals k s =
     Holds k.made (stage_of_known k) (reads_after k.made k.past) n (calls_after k.made k.past) in
     subst P (sym s.reads) (subst Q (sym s.gives) (holds k.made k.past))
 
--- Suppose that the record of the consumer `k` has the reads and gives of its tenure among `deals` (`InStep`), and that
--- a Give is refused only if each of these reads is given already (`IsGiveTaken`). If no Give of `k` was refused, this
--- is still so after the answer to the next command `what` of `k`.
-pub answered_unrefused : (deals : List Deal) (k : Known) (counter : ℕ) (what : Command) (answer : Result Reply Refusal)
-    → next_command k.made (stage_of_known k) counter ≡ Some what → IsGiveTaken what answer deals → InStep deals k
+pub answered_unrefused : (deals : List Deal) (k : Known) (counter : ℕ) (command : Command)
+    (answer : Result Reply Refusal)
+    → next_command k.made (stage_of_known k) counter ≡ Some command → IsGiveTaken command answer deals → InStep deals k
     → IsUnrefused k → IsUnrefused (with_event (Answered answer) k)
-answered_unrefused deals k counter what answer next taken s h =
+answered_unrefused deals k counter command answer next taken s h =
     or_from (refused_at (stage_of_known k) (Answered answer)) (was_refused k.made k.past)
-    (give_accepted k.made (stage_of_known k) counter what answer deals (calls_after k.made k.past) next taken
+    (give_accepted k.made (stage_of_known k) counter command answer deals (calls_after k.made k.past) next taken
     (step_kept deals k s)) h
 
 same_known : (x k : Known) → Some x ≡ Some k → k ≡ x
 same_known x k e = cc
 
-consumed_unrefused : (id : TenancyId) (deals : List Deal) (k : Known) (counter : ℕ) (what : Command)
-    (answer : Result Reply Refusal) (xs : List Known) → next_command k.made (stage_of_known k) counter ≡ Some what
-    → IsGiveTaken what answer deals → known_of id xs ≡ Some k → AllByRecursion (InStep deals) xs
+consumed_unrefused : (id : TenancyId) (deals : List Deal) (k : Known) (counter : ℕ) (command : Command)
+    (answer : Result Reply Refusal) (xs : List Known) → next_command k.made (stage_of_known k) counter ≡ Some command
+    → IsGiveTaken command answer deals → known_of id xs ≡ Some k → AllByRecursion (InStep deals) xs
     → AllByRecursion IsUnrefused xs → AllByRecursion IsUnrefused (consumed id answer xs)
-consumed_unrefused id deals k counter what answer [] next taken found steps h = tt
-consumed_unrefused id deals k counter what answer (x ∷ xs) next taken found steps h =
+consumed_unrefused id deals k counter command answer [] next taken found steps h = tt
+consumed_unrefused id deals k counter command answer (x ∷ xs) next taken found steps h =
     head (same_id (id_of x) id) found
-    (λ g. consumed_unrefused id deals k counter what answer xs next taken g steps.1 h.1)
+    (λ g. consumed_unrefused id deals k counter command answer xs next taken g steps.1 h.1)
   where
     head : (b : Bool) → cond b (Some x) (known_of id xs) ≡ Some k
         → (known_of id xs ≡ Some k → AllByRecursion IsUnrefused (consumed id answer xs))
         → AllByRecursion IsUnrefused (if b then with_event (Answered answer) x ∷ xs else x ∷ consumed id answer xs)
     head true g rest =
-        let P : Known → Type 0 = λ j. next_command j.made (stage_of_known j) counter ≡ Some what in
-        (answered_unrefused deals x counter what answer (subst P (same_known x k g) next) taken steps.0 h.0, h.1)
+        let P : Known → Type 0 = λ j. next_command j.made (stage_of_known j) counter ≡ Some command in
+        (answered_unrefused deals x counter command answer (subst P (same_known x k g) next) taken steps.0 h.0, h.1)
     head false g rest = (h.0, rest g)
 
-own_unrefused : (id : TenancyId) (deals : List Deal) (what : Command) (answer : Result Reply Refusal) (w : WorkerState)
-    (o : Option Known) → known_of id w.consumers ≡ o → consumer_command w o ≡ Some what → IsGiveTaken what answer deals
+own_unrefused : (id : TenancyId) (deals : List Deal) (command : Command) (answer : Result Reply Refusal)
+    (w : WorkerState)
+    (o : Option Known) → known_of id w.consumers ≡ o → consumer_command w o ≡ Some command
+    → IsGiveTaken command answer deals
     → AllByRecursion (InStep deals) w.consumers → AreUnrefused w.consumers w.retired
     → AreUnrefused (consumed id answer w.consumers) w.retired
-own_unrefused id deals what answer w None found next taken steps u = absurd cc
-own_unrefused id deals what answer w (Some k) found next taken steps u = record {
-  live = consumed_unrefused id deals k (counter_of (id_of k) w.held) what answer w.consumers next taken found steps
+own_unrefused id deals command answer w None found next taken steps u = absurd cc
+own_unrefused id deals command answer w (Some k) found next taken steps u = record {
+  live = consumed_unrefused id deals k (counter_of (id_of k) w.held) command answer w.consumers next taken found steps
       u.live;
   over = u.over;
   ended = u.ended;
@@ -217,30 +213,20 @@ renewal_unrefused now h (Ok _) w u = u
 renewal_unrefused now h (Err r) w u = losing_unrefused (λ k. same_id (id_of k) (id_of_held h)) w.consumers w.retired u
 
 chore_unrefused : (made : WorkerMade) (now : ℕ) (answer : Result Reply Refusal) (deals : List Deal) (chore : Chore)
-    (what : Command) (w : WorkerState) → IsOwnCommand chore what w → IsGiveTaken what answer deals
+    (command : Command) (w : WorkerState) → IsOwnCommand chore command w → IsGiveTaken command answer deals
     → AllByRecursion (InStep deals) w.consumers → AreUnrefused w.consumers w.retired
     → AreUnrefused (after_chore made now answer chore w).consumers (after_chore made now answer chore w).retired
-chore_unrefused made now answer deals Surveying what w is taken steps u = survey_unrefused made now answer w u
-chore_unrefused made now answer deals (Syncing step syncs takes) what w is taken steps u = u
-chore_unrefused made now answer deals (Taking step takes) what w is taken steps u =
+chore_unrefused made now answer deals Surveying command w is taken steps u = survey_unrefused made now answer w u
+chore_unrefused made now answer deals (Syncing step syncs takes) command w is taken steps u = u
+chore_unrefused made now answer deals (Taking step takes) command w is taken steps u =
     take_unrefused made now step answer (record w { round = AtTakes takes }) u
-chore_unrefused made now answer deals (Renewing h) what w is taken steps u =
+chore_unrefused made now answer deals (Renewing h) command w is taken steps u =
     renewal_unrefused now h answer (record w { round = AtRenewals (Some (id_of_held h)) }) u
-chore_unrefused made now answer deals (Consuming id) what w is taken steps u =
-    own_unrefused id deals what answer w (known_of id w.consumers) refl is taken steps u
-chore_unrefused made now answer deals (Finishing id) what w is taken steps u =
-    own_unrefused id deals what answer w (known_of id w.consumers) refl is taken steps u
-chore_unrefused made now answer deals (Freeing h) what w is taken steps u = u
-
-own_kept : (chore : Chore) (what : Command) (w : WorkerState) → IsOwnCommand chore what w
-    → IsOwnCommand chore what (record w { waiting = None })
-own_kept (Consuming id) what w h = h
-own_kept (Finishing id) what w h = h
-own_kept Surveying what w h = h
-own_kept (Syncing step syncs takes) what w h = h
-own_kept (Taking step takes) what w h = h
-own_kept (Renewing g) what w h = h
-own_kept (Freeing g) what w h = h
+chore_unrefused made now answer deals (Consuming id) command w is taken steps u =
+    own_unrefused id deals command answer w (known_of id w.consumers) refl is taken steps u
+chore_unrefused made now answer deals (Finishing id) command w is taken steps u =
+    own_unrefused id deals command answer w (known_of id w.consumers) refl is taken steps u
+chore_unrefused made now answer deals (Freeing h) command w is taken steps u = u
 
 absorbed_unrefused : (made : WorkerMade) (now : ℕ) (answer : Result Reply Refusal) (deals : List Deal) (w : WorkerState)
     (o : Option Pending) → IsWaitingOk o w → AreGivesTaken (with_deal o answer deals)
@@ -249,7 +235,8 @@ absorbed_unrefused : (made : WorkerMade) (now : ℕ) (answer : Result Reply Refu
 absorbed_unrefused made now answer deals w None is taken steps u = u
 absorbed_unrefused made now answer deals w (Some p) is taken steps u =
     settle_unrefused (after_chore made now answer p.chore (record w { waiting = None }))
-    (chore_unrefused made now answer deals p.chore p.what (record w { waiting = None }) (own_kept p.chore p.what w is)
+    (chore_unrefused made now answer deals p.chore p.what (record w { waiting = None })
+    (own_without p.chore p.what w is)
     taken.0 steps u)
 
 -- ---- The record
@@ -263,10 +250,6 @@ release_unrefused (Some r) w u = record {
   ended = u.ended;
 }
 
--- Suppose that each refused Give among the commands came when each earlier read of its tenure was given
--- (`AreGivesTaken`), and that the consumers' records agree with the commands (`IsFine`). If no Give of a consumer was
--- refused and each retired consumer was over before an event of the worker, this is still so after the event
--- (`AreUnrefused`).
 pub state_unrefused : (made : WorkerMade) (event : WorkerEvent) (w : WorkerState) (deals : List Deal)
     → AreGivesTaken (deals_with event w deals) → IsFine deals w → AreUnrefused w.consumers w.retired
     → AreUnrefused (after_worker_event made event w).consumers (after_worker_event made event w).retired
@@ -293,12 +276,12 @@ event_unrefused made event past taken f u =
 
 taken_before : (made : WorkerMade) (event : WorkerEvent) (past : WorkerPast)
     → AreGivesTaken (deals_after made (event ∷ past)) → AreGivesTaken (deals_after made past)
-taken_before made (Got_answer now answer) past h = before (worker_after made past).waiting h
+taken_before made (Got_answer now answer) past h = cases (worker_after made past).waiting h
   where
-    before : (o : Option Pending) → AreGivesTaken (with_deal o answer (deals_after made past))
+    cases : (o : Option Pending) → AreGivesTaken (with_deal o answer (deals_after made past))
         → AreGivesTaken (deals_after made past)
-    before None h = h
-    before (Some p) h = h.1
+    cases None h = h
+    cases (Some p) h = h.1
 taken_before made (Made_call asked) past h = h
 taken_before made (Gave_command now) past h = h
 taken_before made Stopped past h = h
@@ -325,9 +308,6 @@ over_life : (made : Tenancy) (stage : Stage) (reads : List Fetched) (gives : ℕ
 over_life made (Over why) reads gives calls over s = settled_life made reads gives calls s
 over_life made _ reads gives calls over s = absurd cc
 
--- Let the record of the consumer `k` have the reads and gives of its tenure among `deals` (`InStep`). If `k` is over
--- and no Give of it was refused, the calls of its processor fit these reads and gives, and each batch that was handed
--- over is given (`IsWholeLife`).
 pub whole_among : (deals : List Deal) (k : Known) → InStep deals k → IsUnrefused k → HasEnded k
     → IsWholeLife k.made (reads_in k.made.tenure deals) (gives_in k.made.tenure deals) (calls_after k.made k.past)
 whole_among deals k s unrefused over =
@@ -338,9 +318,6 @@ whole_among deals k s unrefused over =
     (over_life k.made (stage_of_known k) (reads_after k.made k.past) (gives_after k.made k.past)
     (calls_after k.made k.past) over (settles k.made k.past unrefused)))
 
--- Let the record of each consumer in `xs` have the reads and gives of its tenure among `deals`. If each consumer is
--- over and no Give of it was refused, the calls of each processor fit these reads and gives, and each batch that was
--- handed over is given (`IsWholeLife`).
 pub all_whole : (deals : List Deal) (xs : List Known) → AllByRecursion (InStep deals) xs → AllByRecursion IsUnrefused xs
     → AllByRecursion HasEnded xs
     → AllByRecursion (λ k. IsWholeLife k.made (reads_in k.made.tenure deals) (gives_in k.made.tenure deals)
@@ -358,23 +335,21 @@ retired_whole made past orderly new taken =
     all_whole (deals_after made past) (worker_after made past).retired (fine made past orderly new).good.over u.over
     u.ended
 
--- Suppose that the record results from calls that meet their preconditions, and that the turns of the actor `by` in the
--- history `h` are the commands of the record with their answers. Then each consumer belongs to a tenure, and its
--- processor was called for the given reads of this tenure. Each batch that a retired consumer's processor was handed is
--- given (`AreServed`).
-pub are_served : (by : ℕ) (h : List Turn) (made : WorkerMade) (past : WorkerPast) → IsOrderly made past
-    → IsToldIn by h made past → AreServed by h made past
-are_served by h made past orderly told =
-    let new = subst AreNewTenures told (new_tenures by h) in
+-- All consumers of a worker whose trace fits a history are served.
+pub are_served : (actor : ℕ) (h : List Turn) (made : WorkerMade) (past : WorkerPast) → IsOrderly made past
+    → IsToldIn actor h made past → AreServed actor h made past
+are_served actor h made past orderly is_told =
+    let new = subst AreNewTenures is_told (new_tenures actor h) in
     let w = worker_after made past in
-    let begun = begun_told by h made past told in
+    let begun = begun_told actor h made past is_told in
     let Q : List Deal → Type 0 =
     λ deals. AllByRecursion
     (λ k. IsWholeLife k.made (reads_in k.made.tenure deals) (gives_in k.made.tenure deals)
     (calls_after k.made k.past)) w.retired in
     record {
-      consumers = all_both _ _ w.consumers (all_tenures by h w.consumers begun.live)
-          (live_served by h made past orderly told (new_tenures by h));
-      retired = all_both _ _ w.retired (all_tenures by h w.retired begun.over)
-          (subst Q (sym told) (retired_whole made past orderly new (subst AreGivesTaken told (gives_taken by h))));
+      consumers = all_both _ _ w.consumers (all_tenures actor h w.consumers begun.live)
+          (live_served actor h made past orderly is_told (new_tenures actor h));
+      retired = all_both _ _ w.retired (all_tenures actor h w.retired begun.over)
+          (subst Q (sym is_told)
+          (retired_whole made past orderly new (subst AreGivesTaken is_told (gives_taken actor h))));
     }

@@ -1,8 +1,7 @@
--- If no Give of a consumer was refused and the consumer is over, each batch that its processor was handed is given.
+-- If no Give of a consumer was refused and it is over, each batch that its processor was handed is given.
 use Rattle.std.proofs.Common.{◌≡◌, ℕ, ◌+◌, Bool, true, false, List, [], ◌∷◌, ◌++◌, length, Option, Some, None, Ok, Err}
-use Rattle.std.proofs.Common.{refl, sym, subst, arith, inl, inr}
+use Rattle.std.proofs.Common.{refl, sym, subst, inl, inr}
 use Rattle.std.specs.Prelude.{◌⊎◌, cond, if◌then◌else◌, ◌||◌, not, Result}
-use Rattle.std.proofs.lemmas.List.{append-nil}
 use Rattle.std.proofs.lemmas.Bool.{or_parts}
 use Rattle.kds_defs.specs.declared.command.Target.{Target}
 use Rattle.kcl_defs.specs.declared.consumer.Ask.{Ask}
@@ -23,35 +22,33 @@ use Rattle.kcl_defs.specs.Consumers.{after_give}
 use Rattle.kcl_defs.specs.Consumers.{after_mark, after_loss, stage_after, calls_with, calls_after}
 use Rattle.kcl_defs.specs.Lives.{reads_at, reads_after, gives_at, gives_after, read_in, give_in, IsEnding, Ended}
 use Rattle.kcl_defs.proofs.LifeLemmas.{Holds, Stands, StandsGiving, StandsSomehow, IsOpenEnding, Open, Open_ended}
-use Rattle.kcl_defs.proofs.LifeLemmas.{with_end, left_ending, given_on, holds}
+use Rattle.kcl_defs.proofs.LifeLemmas.{with_end, left_ending, given_on, holds, still, no_reads}
 
--- Whether the event is the refusal of a Give: a refusal that comes in the stage `Giving`.
+-- Whether the event refuses a Give.
 abbrev pub refused_at : Stage → Event → Bool
 refused_at (Giving reach waiting asked lost) (Answered (Err r)) = true
 refused_at _ event = false
 
--- Whether a Give of the consumer was refused, according to its record.
+-- Whether a Give in the trace was refused.
 abbrev pub was_refused : Tenancy → Past → Bool
 was_refused made [] = false
 was_refused made (event ∷ past) = refused_at (stage_after made past) event || was_refused made past
 
--- The reads are the given ones, followed by some that wait, and no waiting batch was handed over. The calls have an
--- allowed ending (`IsEnding`).
+-- No waiting batch was handed over, and the calls have an allowed ending.
 pub record IsSettled (made : Tenancy) (reads : List Fetched) (gives : ℕ) (calls : List Call) : Type 0 where
   pub waiting : List Fetched
   pub ending : List Call
   pub stands : Stands made waiting [] ending reads gives calls
   pub ends : IsEnding ending
 
--- The reads are the given ones, followed by some that wait, and no waiting batch was handed over. The processor wasn't
--- told of the loss of the lease yet, so LeaseLost may follow.
+-- No waiting batch was handed over, and LeaseLost may still follow.
 pub record IsLeavingSettled (made : Tenancy) (reads : List Fetched) (gives : ℕ) (calls : List Call) : Type 0 where
   pub waiting : List Fetched
   pub ending : List Call
   pub stands : Stands made waiting [] ending reads gives calls
   pub opens : IsOpenEnding ending
 
--- If the stage is `Leaving` or `Over`, each batch that was handed over is given. In other stages nothing is claimed.
+-- In `Leaving` or `Over`, each batch that was handed over is given.
 abbrev pub Settles : Tenancy → Stage → List Fetched → ℕ → List Call → Type 0
 Settles made (Leaving why) reads gives calls = IsLeavingSettled made reads gives calls
 Settles made (Over why) reads gives calls = (calls ≡ []) ⊎ IsSettled made reads gives calls
@@ -72,8 +69,6 @@ fronts made reach (f ∷ waiting) reads gives calls = choice (is_empty f.batch)
     choice true = tt
     choice false = tt
 
--- If `Settles` holds in a stage, it still holds after the processor call that is due in the stage has returned. So if
--- the consumer then leaves or is over, each batch that was handed over is given.
 called : (made : Tenancy) (asked : Ask) (stage : Stage) (reads : List Fetched) (gives : ℕ) (calls : List Call)
     → Settles made stage reads gives calls
     → Settles made (after_event made (Called asked) stage) reads gives (calls_with made (Called asked) stage calls)
@@ -88,22 +83,20 @@ called made asked Opening reads gives calls s = tt
 called made asked Starting reads gives calls s = tt
 called made asked (Filling reach waiting) reads gives calls s = tt
 called made asked (Holding reach waiting) reads gives calls s = tt
-called made asked (Giving reach waiting to known) reads gives calls s = tt
-called made asked (Marking reach waiting to) reads gives calls s = tt
+called made asked (Giving reach waiting target known) reads gives calls s = tt
+called made asked (Marking reach waiting target) reads gives calls s = tt
 called made asked Ending reads gives calls s = tt
 called made asked MarkingEnd reads gives calls s = tt
 
--- After a loss of the lease in the stage `Giving`, `Settles` holds: either the batch that was handed over is still to
--- be given, or no waiting batch was handed over and the consumer leaves.
-not_handed : (made : Tenancy) (reach : ℕ) (waiting : List Fetched) (to : Option Target) (reads : List Fetched)
+not_handed : (made : Tenancy) (reach : ℕ) (waiting : List Fetched) (target : Option Target) (reads : List Fetched)
     (gives : ℕ) (calls : List Call) → StandsGiving made waiting reads gives calls
-    → Settles made (if first_has_records waiting then Giving reach waiting to true else Leaving why.Lost)
+    → Settles made (if first_has_records waiting then Giving reach waiting target true else Leaving why.Lost)
     reads gives calls
-not_handed made reach [] to reads gives calls h = absurd h.some
-not_handed made reach (f ∷ waiting) to reads gives calls h = choice (is_empty f.batch) refl
+not_handed made reach [] target reads gives calls h = absurd h.some
+not_handed made reach (f ∷ waiting) target reads gives calls h = choice (is_empty f.batch) refl
   where
     choice : (b : Bool) → is_empty f.batch ≡ b
-        → Settles made (if not b then Giving reach (f ∷ waiting) to true else Leaving why.Lost) reads gives calls
+        → Settles made (if not b then Giving reach (f ∷ waiting) target true else Leaving why.Lost) reads gives calls
     choice false e = tt
     choice true e =
         leave made (f ∷ waiting) [] reads gives calls
@@ -115,23 +108,16 @@ lost : (made : Tenancy) (stage : Stage) (reads : List Fetched) (gives : ℕ) (ca
     → Settles made (after_loss stage) reads gives calls
 lost made Opening reads gives calls h s = inl h.none_called
 lost made Starting reads gives calls h s = inl h.none_called
-lost made (Giving reach waiting to known) reads gives calls h s = not_handed made reach waiting to reads gives calls h
+lost made (Giving reach waiting target known) reads gives calls h s =
+    not_handed made reach waiting target reads gives calls h
 lost made (Over why) reads gives calls h s = s
 lost made (Filling reach waiting) reads gives calls h s = leave made waiting [] reads gives calls h Open
 lost made (Holding reach waiting) reads gives calls h s = leave made waiting [] reads gives calls h.stands Open
-lost made (Marking reach waiting to) reads gives calls h s = leave made waiting [] reads gives calls h Open
+lost made (Marking reach waiting target) reads gives calls h s = leave made waiting [] reads gives calls h Open
 lost made Ending reads gives calls h s = leave made h.waiting [] reads gives calls h.stands Open
 lost made MarkingEnd reads gives calls h s =
     leave made h.waiting (call.ShardEnded ∷ []) reads gives calls h.stands Open_ended
 lost made (Leaving why) reads gives calls h s = s
-
--- If `P` holds of the reads `reads` and the number `gives`, it still holds with no read and no give added.
-still : (P : List Fetched → ℕ → Type 0) (reads : List Fetched) (gives : ℕ) → P reads gives → P (reads ++ []) (gives + 0)
-still P reads gives h =
-    let e : gives ≡ gives + 0 = omega arith in
-    let Q : List Fetched → Type 0 = λ rs. P rs (gives + 0) in
-    let R : ℕ → Type 0 = λ n. P reads n in
-    subst Q (sym (append-nil reads)) (subst R e h)
 
 read_answered : (made : Tenancy) (reach : ℕ) (waiting : List Fetched) (answer : Result Reply Refusal)
     (reads : List Fetched) (gives : ℕ) (calls : List Call) → Stands made waiting [] [] reads gives calls
@@ -152,24 +138,27 @@ read_answered made reach waiting (Err refusal.ShardGone) reads gives calls h =
 read_answered made reach waiting (Err _) reads gives calls h =
     still (λ rs n. IsLeavingSettled made rs n calls) reads gives (leave made waiting [] reads gives calls h Open)
 
-onwards : (made : Tenancy) (reach : ℕ) (waiting : List Fetched) (to : Option Target) (reads : List Fetched) (gives : ℕ)
-    (calls : List Call) → Settles made (onward reach waiting to) reads gives calls
+onwards : (made : Tenancy) (reach : ℕ) (waiting : List Fetched) (target : Option Target) (reads : List Fetched)
+    (gives : ℕ)
+    (calls : List Call) → Settles made (onward reach waiting target) reads gives calls
 onwards made reach waiting None reads gives calls = fronts made reach waiting reads gives calls
-onwards made reach waiting (Some to) reads gives calls = tt
+onwards made reach waiting (Some target) reads gives calls = tt
 
-give_answered : (made : Tenancy) (reach : ℕ) (waiting : List Fetched) (to : Option Target) (known : Bool)
+give_answered : (made : Tenancy) (reach : ℕ) (waiting : List Fetched) (target : Option Target) (known : Bool)
     (answer : Result Reply Refusal) (reads : List Fetched) (gives : ℕ) (calls : List Call)
-    → refused_at (Giving reach waiting to known) (Answered answer) ≡ false → StandsGiving made waiting reads gives calls
-    → Settles made (after_give reach waiting to known answer) (reads ++ []) (gives + give_in answer) calls
-give_answered made reach [] to known answer reads gives calls r h = absurd h.some
-give_answered made reach (f ∷ waiting) to true (Ok reply) reads gives calls r h =
+    → refused_at (Giving reach waiting target known) (Answered answer) ≡ false
+    → StandsGiving made waiting reads gives calls
+    → Settles made (after_give reach waiting target known answer) (reads ++ []) (gives + give_in answer) calls
+give_answered made reach [] target known answer reads gives calls r h = absurd h.some
+give_answered made reach (f ∷ waiting) target true (Ok reply) reads gives calls r h =
     leave made waiting [] (reads ++ []) (gives + 1) calls (given_on made f waiting reads gives calls h.stands) Open
-give_answered made reach (f ∷ waiting) to false (Ok reply) reads gives calls r h = choice f.ended
+give_answered made reach (f ∷ waiting) target false (Ok reply) reads gives calls r h = choice f.ended
   where
-    choice : (b : Bool) → Settles made (if b then Ending else onward reach waiting to) (reads ++ []) (gives + 1) calls
+    choice : (b : Bool) → Settles made (if b then Ending else onward reach waiting target) (reads ++ []) (gives + 1)
+        calls
     choice true = tt
-    choice false = onwards made reach waiting to (reads ++ []) (gives + 1) calls
-give_answered made reach (f ∷ waiting) to known (Err e) reads gives calls r h = absurd cc
+    choice false = onwards made reach waiting target (reads ++ []) (gives + 1) calls
+give_answered made reach (f ∷ waiting) target known (Err e) reads gives calls r h = absurd cc
 
 mark_answered : (made : Tenancy) (reach : ℕ) (waiting : List Fetched) (answer : Result Reply Refusal)
     (reads : List Fetched) (gives : ℕ) (calls : List Call) → Stands made waiting [] [] reads gives calls
@@ -202,12 +191,12 @@ answered : (made : Tenancy) (answer : Result Reply Refusal) (stage : Stage) (rea
     (gives + gives_at stage (Answered answer)) calls
 answered made answer (Filling reach waiting) reads gives calls r h s =
     read_answered made reach waiting answer reads gives calls h
-answered made answer (Giving reach waiting to known) reads gives calls r h s =
-    give_answered made reach waiting to known answer reads gives calls r h
+answered made answer (Giving reach waiting target known) reads gives calls r h s =
+    give_answered made reach waiting target known answer reads gives calls r h
 answered made answer Opening reads gives calls r h s =
     still (λ rs n. Settles made (after_answer made answer Opening) rs n calls) reads gives
     (open_answered made answer reads gives calls h.none_called)
-answered made answer (Marking reach waiting to) reads gives calls r h s =
+answered made answer (Marking reach waiting target) reads gives calls r h s =
     still (λ rs n. Settles made (after_mark reach waiting answer) rs n calls) reads gives
     (mark_answered made reach waiting answer reads gives calls h)
 answered made answer MarkingEnd reads gives calls r h s =
@@ -221,22 +210,16 @@ answered made answer (Leaving why) reads gives calls r h s =
 answered made answer (Over why) reads gives calls r h s =
     still (λ rs n. Settles made (Over why) rs n calls) reads gives s
 
--- If a consumer leaves or is over after its record `past`, each batch that was handed over is given (`Settles`).
+-- If the consumer leaves or is over after its trace, each batch that was handed over is given.
 abbrev SettlesAfter : Tenancy → Past → Type 0
 SettlesAfter made past =
     Settles made (stage_after made past) (reads_after made past) (gives_after made past) (calls_after made past)
 
-no_reads : (stage : Stage) (asked : Ask) → (reads_at stage (Called asked) ≡ []) × (reads_at stage Losing ≡ [])
-    × (gives_at stage (Called asked) ≡ 0) × (gives_at stage Losing ≡ 0)
-no_reads (Filling reach waiting) asked = (refl, refl, refl, refl)
-no_reads (Giving reach waiting to known) asked = (refl, refl, refl, refl)
-no_reads _ asked = (refl, refl, refl, refl)
-
-quiet : (made : Tenancy) (event : Event) (stage before : Stage) (reads : List Fetched) (gives : ℕ) (calls : List Call)
-    → reads_at before event ≡ [] → gives_at before event ≡ 0 → Settles made stage reads gives calls
-    → Settles made stage (reads ++ reads_at before event) (gives + gives_at before event) calls
-quiet made event stage before reads gives calls r g h =
-    let P : List Fetched → Type 0 = λ rs. Settles made stage (reads ++ rs) (gives + gives_at before event) calls in
+quiet : (made : Tenancy) (event : Event) (stage old : Stage) (reads : List Fetched) (gives : ℕ) (calls : List Call)
+    → reads_at old event ≡ [] → gives_at old event ≡ 0 → Settles made stage reads gives calls
+    → Settles made stage (reads ++ reads_at old event) (gives + gives_at old event) calls
+quiet made event stage old reads gives calls r g h =
+    let P : List Fetched → Type 0 = λ rs. Settles made stage (reads ++ rs) (gives + gives_at old event) calls in
     let Q : ℕ → Type 0 = λ n. Settles made stage (reads ++ []) (gives + n) calls in
     subst P (sym r) (subst Q (sym g) (still (λ rs n. Settles made stage rs n calls) reads gives h))
 
@@ -258,8 +241,6 @@ happens made Losing past r s =
     (lost made (stage_after made past) (reads_after made past) (gives_after made past) (calls_after made past)
     (holds made past) s)
 
--- If no Give of a consumer was refused in its record `past`, and the consumer leaves or is over, each batch that was
--- handed over is given (`SettlesAfter`).
 pub settles : (made : Tenancy) (past : Past) → was_refused made past ≡ false → SettlesAfter made past
 settles made [] r = tt
 settles made (event ∷ past) r =

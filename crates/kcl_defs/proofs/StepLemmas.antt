@@ -1,8 +1,8 @@
--- If a consumer's record has the same reads and gives of the consumer's tenure as the commands of the actor
--- (`IsInStep`), this stays so after each further command and after each event of the consumer.
+-- A consumer's trace keeps having its tenure's reads and Gives, after each further command and event.
 use Rattle.std.proofs.Common.{◌≡◌, ℕ, ◌+◌, false, List, [], ◌∷◌, ◌++◌, Some, refl, sym, ap, subst, ◌∙◌}
 use Rattle.std.specs.Prelude.{◌==◌, cond, if◌then◌else◌, Result}
 use Rattle.std.proofs.lemmas.List.{append-nil}
+use Rattle.std.proofs.lemmas.Option.{same_Some}
 use Rattle.kds_base.proofs.Facts.{is_itself, plus_none}
 use Rattle.kds_defs.specs.declared.command.Command.{Command}
 use Rattle.kds_defs.specs.declared.command.Command.TheVariants as command
@@ -22,9 +22,6 @@ use Rattle.kcl_defs.proofs.LifeLemmas.{life}
 
 -- ---- The reads and gives of a command are those of the stage in which it comes next
 
-same_command : (a b : Command) → Some a ≡ Some b → a ≡ b
-same_command a b e = cc
-
 own_read : (t position limit : ℕ) (answer : Result Reply Refusal) → reads_of t (command.Read t position limit) answer
     ≡ read_in answer
 own_read t position limit answer = ap (λ b. if b then read_in answer else []) (is_itself t)
@@ -32,40 +29,35 @@ own_read t position limit answer = ap (λ b. if b then read_in answer else []) (
 own_give : (t : ℕ) (answer : Result Reply Refusal) → gives_of t (command.Give t) answer ≡ give_in answer
 own_give t answer = ap (λ b. if b then give_in answer else 0) (is_itself t)
 
--- The read and the give of the consumer's tenure that `what` and `answer` report are those that this answer adds to the
--- consumer's record in the stage `stage`.
-pub record Adds (made : Tenancy) (stage : Stage) (what : Command) (answer : Result Reply Refusal) : Type 0 where
-  pub reads : reads_of made.tenure what answer ≡ reads_at stage (Answered answer)
-  pub gives : gives_of made.tenure what answer ≡ gives_at stage (Answered answer)
+-- An answer adds the same read and give to the commands as to the consumer's trace.
+pub record Adds (made : Tenancy) (stage : Stage) (asked : Command) (answer : Result Reply Refusal) : Type 0 where
+  pub reads : reads_of made.tenure asked answer ≡ reads_at stage (Answered answer)
+  pub gives : gives_of made.tenure asked answer ≡ gives_at stage (Answered answer)
 
-adds_as : (made : Tenancy) (stage : Stage) (given what : Command) (answer : Result Reply Refusal)
-    → Some given ≡ Some what → Adds made stage given answer → Adds made stage what answer
-adds_as made stage given what answer e h = subst (λ w. Adds made stage w answer) (same_command given what e) h
+adds_as : (made : Tenancy) (stage : Stage) (request asked : Command) (answer : Result Reply Refusal)
+    → Some request ≡ Some asked → Adds made stage request answer → Adds made stage asked answer
+adds_as made stage request asked answer e h = subst (λ w. Adds made stage w answer) (same_Some request asked e) h
 
--- Let `what` come next in the stage `stage`. Then the read and the give of the consumer's tenure that `what` and
--- `answer` report are those that this answer adds to the consumer's record (`Adds`).
-pub adds : (made : Tenancy) (stage : Stage) (counter : ℕ) (what : Command) (answer : Result Reply Refusal)
-    → next_command made stage counter ≡ Some what → Adds made stage what answer
-adds made Opening counter what answer e = adds_as made Opening _ what answer e (record { reads = refl; gives = refl })
-adds made (Filling reach waiting) counter what answer e =
-    adds_as made (Filling reach waiting) _ what answer e (record {
+pub adds : (made : Tenancy) (stage : Stage) (counter : ℕ) (request : Command) (answer : Result Reply Refusal)
+    → next_command made stage counter ≡ Some request → Adds made stage request answer
+adds made Opening counter request answer e =
+    adds_as made Opening _ request answer e (record { reads = refl; gives = refl })
+adds made (Filling reach waiting) counter request answer e =
+    adds_as made (Filling reach waiting) _ request answer e (record {
       reads = own_read made.tenure reach made.limit answer;
       gives = refl;
     })
-adds made (Giving reach waiting asked lost) counter what answer e =
-    adds_as made (Giving reach waiting asked lost) _ what answer e
+adds made (Giving reach waiting asked lost) counter request answer e =
+    adds_as made (Giving reach waiting asked lost) _ request answer e
     (record { reads = refl; gives = own_give made.tenure answer })
-adds made (Marking reach waiting to) counter what answer e =
-    adds_as made (Marking reach waiting to) _ what answer e (record { reads = refl; gives = refl })
-adds made MarkingEnd counter what answer e =
-    adds_as made MarkingEnd _ what answer e (record { reads = refl; gives = refl })
-adds made _ counter what answer e = absurd cc
+adds made (Marking reach waiting target) counter request answer e =
+    adds_as made (Marking reach waiting target) _ request answer e (record { reads = refl; gives = refl })
+adds made MarkingEnd counter request answer e =
+    adds_as made MarkingEnd _ request answer e (record { reads = refl; gives = refl })
+adds made _ counter request answer e = absurd cc
 
 -- ---- Steps
 
--- Suppose that the record `past` of a consumer has the reads and gives of the consumer's tenure among `deals`
--- (`IsInStep`). If the command `deal` reports no read and no give of this tenure, this is still so with `deal` added to
--- the commands.
 pub others_keep : (deal : Deal) (deals : List Deal) (made : Tenancy) (past : Past)
     → reads_of made.tenure deal.what deal.answer ≡ [] → gives_of made.tenure deal.what deal.answer ≡ 0
     → IsInStep deals made past → IsInStep (deal ∷ deals) made past
@@ -75,8 +67,6 @@ others_keep deal deals made past no_read no_give s =
       gives = ap (λ n. gives_in made.tenure deals + n) no_give ∙ plus_none (gives_in made.tenure deals) ∙ s.gives;
     }
 
--- If the record `past` of a consumer has the reads and gives of its tenure among `deals` (`IsInStep`), this is still so
--- after the consumer's next command: `deal` is added to the commands, and the answer in `deal` to the record.
 pub own_keeps : (deal : Deal) (deals : List Deal) (counter : ℕ) (made : Tenancy) (past : Past)
     → next_command made (stage_after made past) counter ≡ Some deal.what → IsInStep deals made past
     → IsInStep (deal ∷ deals) made (Answered deal.answer ∷ past)
@@ -89,11 +79,10 @@ own_keeps deal deals counter made past next s =
           ∙ ap (λ n. gives_after made past + n) a.gives;
     }
 
--- A returned call and a loss of the lease add no read and no give to a consumer's record.
 called_reads : (stage : Stage) (asked : Ask) → (reads_at stage (Called asked) ≡ [])
     × (gives_at stage (Called asked) ≡ 0) × (reads_at stage Losing ≡ []) × (gives_at stage Losing ≡ 0)
 called_reads (Filling reach waiting) asked = (refl, refl, refl, refl)
-called_reads (Giving reach waiting to lost) asked = (refl, refl, refl, refl)
+called_reads (Giving reach waiting target lost) asked = (refl, refl, refl, refl)
 called_reads _ asked = (refl, refl, refl, refl)
 
 silent : (deals : List Deal) (made : Tenancy) (event : Event) (past : Past)
@@ -105,15 +94,11 @@ silent deals made event past no_read no_give s =
       gives = s.gives ∙ sym (ap (λ n. gives_after made past + n) no_give ∙ plus_none (gives_after made past));
     }
 
--- If the record of a consumer has the reads and gives of its tenure among `deals` (`IsInStep`), this is still so after
--- a call of the consumer's processor has returned.
 pub called_keeps : (deals : List Deal) (made : Tenancy) (asked : Ask) (past : Past) → IsInStep deals made past
     → IsInStep deals made (Called asked ∷ past)
 called_keeps deals made asked past s =
     let n = called_reads (stage_after made past) asked in silent deals made (Called asked) past n.0 n.1 s
 
--- If the record of a consumer has the reads and gives of its tenure among `deals` (`IsInStep`), this is still so after
--- the consumer has learnt that its lease is lost.
 pub lost_keeps : (deals : List Deal) (made : Tenancy) (past : Past) → IsInStep deals made past
     → IsInStep deals made (Losing ∷ past)
 lost_keeps deals made past s =
@@ -121,8 +106,6 @@ lost_keeps deals made past s =
 
 -- ---- The calls of the processor
 
--- If the record of a consumer has the reads and gives of its tenure among `deals` (`IsInStep`), the calls of the
--- consumer's processor fit these reads and gives (`IsLife`).
 pub life_among : (deals : List Deal) (made : Tenancy) (past : Past) → IsInStep deals made past
     → IsLifeAmong deals made (calls_after made past)
 life_among deals made past s =
@@ -132,8 +115,7 @@ life_among deals made past s =
 
 -- ---- A history
 
--- A turn of another actor adds nothing to the commands of the actor `by`.
-pub others_turn : (by : ℕ) (turn : Turn) (h : List Turn) → (turn.by == by) ≡ false
-    → deals_of by (turn ∷ h) ≡ deals_of by h
-others_turn by turn h other =
-    ap (λ b. cond b (record { what = turn.what; answer = answer h turn } ∷ deals_of by h) (deals_of by h)) other
+pub others_turn : (actor : ℕ) (turn : Turn) (h : List Turn) → (turn.by == actor) ≡ false
+    → deals_of actor (turn ∷ h) ≡ deals_of actor h
+others_turn actor turn h other =
+    ap (λ b. cond b (record { what = turn.what; answer = answer h turn } ∷ deals_of actor h) (deals_of actor h)) other

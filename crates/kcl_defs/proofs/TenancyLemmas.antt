@@ -1,5 +1,4 @@
--- Each consumer of a worker belongs to a tenure of the journal, which has the key and the starting checkpoint that the
--- consumer was made with.
+-- Each consumer belongs to a tenure of the journal with its key and its starting checkpoint.
 use Rattle.std.proofs.Common.{◌≡◌, ℕ, ◌+◌, ◌<◌, Bool, true, false, List, [], ◌∷◌, Option, Some, None, Ok, Err, refl}
 use Rattle.std.proofs.Common.{sym, ap, subst, ◌∙◌, arith, inl, inr}
 use Rattle.std.specs.Prelude.{◌==◌, ◌⊎◌, not, cond, Result}
@@ -8,7 +7,7 @@ use Rattle.std.specs.Option.{option_map}
 use Rattle.std.proofs.lemmas.Bool.Decides.{nat_tests}
 use Rattle.kds_base.specs.declared.lease_key.Checkpoint.{Checkpoint}
 use Rattle.kds_base.specs.declared.lease_key.ShardRef.{ShardRef}
-use Rattle.kds_base.proofs.Facts.{equal_so}
+use Rattle.kds_base.proofs.Facts.{equal_so, all_append, all_filter, all_weaker}
 use Rattle.kds_defs.specs.declared.command.Command.{Command}
 use Rattle.kds_defs.specs.declared.command.Command.TheVariants as command
 use Rattle.kds_defs.specs.declared.command.Turn.{Turn}
@@ -39,104 +38,102 @@ use Rattle.kcl_defs.specs.Workers.{happens_to, happens_to_first}
 use Rattle.kcl_defs.specs.WorkerLives.{IsOfTenure, IsToldIn}
 use Rattle.kds_defs.proofs.Leads.{Leads, leads_so, past_none, past_test}
 use Rattle.kcl_defs.proofs.DealLemmas.{unborn}
-use Rattle.kcl_defs.proofs.KnownLemmas.{all_append, all_event, all_filter, all_first, all_map, all_with_known}
+use Rattle.kcl_defs.proofs.KnownLemmas.{all_event, all_first, all_with_known}
 use Rattle.kcl_defs.proofs.WorkerLemmas.{all_without}
 
 -- ---- A tenure of the journal keeps its actor, its key and its starting checkpoint
 
--- There is a tenure in the third argument, it is the tenure of the actor `by`, and it has the key and the starting
--- checkpoint in `made`.
+-- There is a tenure of the actor `actor`, with the key and starting checkpoint in `made`.
 abbrev pub TenureIs : ℕ → Tenancy → Option TenureState → Type 0
-TenureIs by made None = ⊥
-TenureIs by made (Some T) = (T.by ≡ by) × (T.key ≡ made.key) × (T.start ≡ made.start)
+TenureIs actor made None = ⊥
+TenureIs actor made (Some T) = (T.by ≡ actor) × (T.key ≡ made.key) × (T.start ≡ made.start)
 
 kept_map : (f : TenureState → TenureState) → ((T : TenureState) → (f T).by ≡ T.by)
     → ((T : TenureState) → (f T).key ≡ T.key)
-    → ((T : TenureState) → (f T).start ≡ T.start) → (by : ℕ) (made : Tenancy) (o : Option TenureState) (b : Bool)
-    → TenureIs by made o
-    → TenureIs by made (cond b (option_map f o) o)
-kept_map f by_same key_same start_same by made o false h = h
-kept_map f by_same key_same start_same by made None true h = h
-kept_map f by_same key_same start_same by made (Some T) true h = (by_same T ∙ h.0, key_same T ∙ h.1, start_same T ∙ h.2)
+    → ((T : TenureState) → (f T).start ≡ T.start) → (actor : ℕ) (made : Tenancy) (o : Option TenureState) (b : Bool)
+    → TenureIs actor made o
+    → TenureIs actor made (cond b (option_map f o) o)
+kept_map f by_same key_same start_same actor made o false h = h
+kept_map f by_same key_same start_same actor made None true h = h
+kept_map f by_same key_same start_same actor made (Some T) true h =
+    (by_same T ∙ h.0, key_same T ∙ h.1, start_same T ∙ h.2)
 
--- If the tenure `t` is that of the actor, with the key and the starting checkpoint in `made` (`TenureIs`), it still is
--- after the next tenure has begun. `b` is true if `t` has the number of the next tenure, which is impossible.
-taken_again : (log : Journal) (by t : ℕ) (made : Tenancy) (o : Option TenureState) (b : Bool)
-    → (t == taken_count log + 1) ≡ b → TenureIs by made (tenure log t)
-    → TenureIs by made (cond b o (tenure log t))
-taken_again log by t made o false e h = h
-taken_again log by t made o true e h =
+taken_again : (log : Journal) (actor t : ℕ) (made : Tenancy) (o : Option TenureState) (b : Bool)
+    → (t == taken_count log + 1) ≡ b → TenureIs actor made (tenure log t)
+    → TenureIs actor made (cond b o (tenure log t))
+taken_again log actor t made o false e h = h
+taken_again log actor t made o true e h =
     let none : tenure log t ≡ None = ap (tenure log) (equal_so t (taken_count log + 1) e)
     ∙ unborn log (taken_count log + 1) (above (taken_count log)) in
-    absurd (subst (TenureIs by made) none h)
+    absurd (subst (TenureIs actor made) none h)
   where
     above : (n : ℕ) → n < n + 1
     above n = omega arith
 
-kept_at : (log : Journal) (line : Line) (what : Entry) (by t : ℕ) (made : Tenancy) → TenureIs by made (tenure log t)
-    → TenureIs by made (tenure_after log line what t (tenure log t))
-kept_at log line (entry.Taken key which counter owner) by t made h =
-    taken_again log by t made (Some (new_tenure line.by key (checkpoint_in (row log key)))) (t == taken_count log + 1)
+kept_at : (log : Journal) (line : Line) (change : Entry) (actor t : ℕ) (made : Tenancy)
+    → TenureIs actor made (tenure log t)
+    → TenureIs actor made (tenure_after log line change t (tenure log t))
+kept_at log line (entry.Taken key which counter owner) actor t made h =
+    taken_again log actor t made (Some (new_tenure line.by key (checkpoint_in (row log key))))
+    (t == taken_count log + 1)
     refl h
-kept_at log line (entry.Opened which) by t made h =
-    kept_map with_opened (λ T. refl) (λ T. refl) (λ T. refl) by made (tenure log t) (which == t) h
-kept_at log line (entry.Read which limit ended numbers) by t made h =
-    kept_map (with_read numbers ended) (λ T. refl) (λ T. refl) (λ T. refl) by made (tenure log t) (which == t) h
-kept_at log line (entry.Given which) by t made h =
-    kept_map with_given (λ T. refl) (λ T. refl) (λ T. refl) by made (tenure log t) (which == t) h
-kept_at log line _ by t made h = h
+kept_at log line (entry.Opened which) actor t made h =
+    kept_map with_opened (λ T. refl) (λ T. refl) (λ T. refl) actor made (tenure log t) (which == t) h
+kept_at log line (entry.Read which limit ended numbers) actor t made h =
+    kept_map (with_read numbers ended) (λ T. refl) (λ T. refl) (λ T. refl) actor made (tenure log t) (which == t) h
+kept_at log line (entry.Given which) actor t made h =
+    kept_map with_given (λ T. refl) (λ T. refl) (λ T. refl) actor made (tenure log t) (which == t) h
+kept_at log line _ actor t made h = h
 
-kept_lines : (lines : List Line) (log : Journal) (by t : ℕ) (made : Tenancy) → TenureIs by made (tenure log t)
-    → TenureIs by made (tenure (with_lines lines log) t)
-kept_lines [] log by t made h = h
-kept_lines (line ∷ lines) log by t made h =
-    kept_lines lines (line ∷ log) by t made (kept_at log line line.what by t made h)
+kept_lines : (lines : List Line) (log : Journal) (actor t : ℕ) (made : Tenancy) → TenureIs actor made (tenure log t)
+    → TenureIs actor made (tenure (with_lines lines log) t)
+kept_lines [] log actor t made h = h
+kept_lines (line ∷ lines) log actor t made h =
+    kept_lines lines (line ∷ log) actor t made (kept_at log line line.what actor t made h)
 
 -- ---- An accepted Take begins a tenure
 
--- The command is a Take of the key in `made`. Its answer accepts it, and says that the tenure in `made` has begun, with
--- the starting checkpoint in `made`.
-pub record IsTaken (made : Tenancy) (what : Command) (answer : Result Reply Refusal) : Type 0 where
+-- The command is an accepted Take that began the tenure in `made`.
+pub record IsTaken (made : Tenancy) (request : Command) (answer : Result Reply Refusal) : Type 0 where
   pub counter : ℕ
   pub owner : ℕ
   pub now : ℕ
-  pub asked : what ≡ command.Take made.key counter owner
+  pub asked : request ≡ command.Take made.key counter owner
   pub taken : answer ≡ Ok (reply.Taken made.tenure now made.start)
 
--- One of the commands `deals` is the accepted Take that began the tenure in `made` (`IsTaken`).
+-- One of the commands is the accepted Take that began the tenure in `made`.
 abbrev pub IsBegunIn : List Deal → Tenancy → Type 0
 IsBegunIn [] made = ⊥
 IsBegunIn (deal ∷ deals) made = IsTaken made deal.what deal.answer ⊎ IsBegunIn deals made
 
--- If the answer says that the tenure in `made` has begun, the journal `log` with the lines `lines` has this tenure.
--- This tenure is that of the actor `by`, and has the key `key` and the starting checkpoint in `made`.
+-- If the answer says that the tenure in `made` has begun, the journal after these lines has it.
 abbrev TakesSo : ℕ → ShardRef → Journal → List Line → Result Reply Refusal → Type 0
-TakesSo by key log lines answer =
+TakesSo actor key log lines answer =
     (made : Tenancy) (now : ℕ) → made.key ≡ key → answer ≡ Ok (reply.Taken made.tenure now made.start)
-    → TenureIs by made
+    → TenureIs actor made
     (tenure (with_lines lines log) made.tenure)
 
 same_taken : (t u n m : ℕ) (s r : Checkpoint) (a : Result Reply Refusal) → a ≡ Ok (reply.Taken t n s)
     → a ≡ Ok (reply.Taken u m r) → (t ≡ u) × (s ≡ r)
 same_taken t u n m s r a e g = (cc, cc)
 
-no_taken : (r : Refusal) (given : Reply) (a : Result Reply Refusal) → a ≡ Err r → a ≡ Ok given → ⊥
-no_taken r given a e g = cc
+no_taken : (r : Refusal) (result : Reply) (a : Result Reply Refusal) → a ≡ Err r → a ≡ Ok result → ⊥
+no_taken r result a e g = cc
 
-new_is : (log : Journal) (by t : ℕ) (key : ShardRef) (made : Tenancy) (start : Checkpoint) → made.key ≡ key
+new_is : (log : Journal) (actor t : ℕ) (key : ShardRef) (made : Tenancy) (start : Checkpoint) → made.key ≡ key
     → made.start ≡ start → t ≡ taken_count log + 1
-    → TenureIs by made (cond (t == taken_count log + 1) (Some (new_tenure by key start)) (tenure log t))
-new_is log by t key made start k s e =
-    subst (λ b. TenureIs by made (cond b (Some (new_tenure by key start)) (tenure log t)))
+    → TenureIs actor made (cond (t == taken_count log + 1) (Some (new_tenure actor key start)) (tenure log t))
+new_is log actor t key made start k s e =
+    subst (λ b. TenureIs actor made (cond b (Some (new_tenure actor key start)) (tenure log t)))
     (sym (equal t (taken_count log + 1) e)) (refl, sym k, sym s)
   where
     equal : (a b : ℕ) → a ≡ b → (a == b) ≡ true
     equal a b h = grind (arith, nat_tests)
 
-take_begins : (log : Journal) (c by : ℕ) (key : ShardRef) (counter owner : ℕ)
-    → Leads (TakesSo by key log) (take_lease log c by key counter owner)
-take_begins log c by key counter owner =
-    let P : List Line → Result Reply Refusal → Type 0 = TakesSo by key log in
+take_begins : (log : Journal) (c actor : ℕ) (key : ShardRef) (counter owner : ℕ)
+    → Leads (TakesSo actor key log) (take_lease log c actor key counter owner)
+take_begins log c actor key counter owner =
+    let P : List Line → Result Reply Refusal → Type 0 = TakesSo actor key log in
     let refused : (r : Refusal) → P [] (Err r) =
     λ r made now k e. absurd (no_taken r (reply.Taken made.tenure now made.start) (Err r) refl e) in
     past_none P refused _ _ _
@@ -144,67 +141,65 @@ take_begins log c by key counter owner =
     λ made now k e.
     let same = same_taken (taken_count log + 1) made.tenure (r.counter + 1) now r.checkpoint made.start
     (Ok (reply.Taken (taken_count log + 1) (r.counter + 1) r.checkpoint)) refl e in
-    new_is log by made.tenure key made (checkpoint_in (row log key)) k (sym same.1 ∙ sym (ap checkpoint_in is))
+    new_is log actor made.tenure key made (checkpoint_in (row log key)) k (sym same.1 ∙ sym (ap checkpoint_in is))
     (sym same.0)))))
 
-begun_now : (by c : ℕ) (what : Command) (log : Journal) (made : Tenancy)
-    → IsTaken made what (answer_of (decide log c by what))
-    → TenureIs by made (tenure (with_lines (lines_of (decide log c by what)) log) made.tenure)
-begun_now by c what log made t =
-    let P : Command → Type 0 = λ w. answer_of (decide log c by w) ≡ Ok (reply.Taken made.tenure t.now made.start)
-    → TenureIs by made
-    (tenure (with_lines (lines_of (decide log c by w)) log) made.tenure) in
+begun_now : (actor c : ℕ) (asked : Command) (log : Journal) (made : Tenancy)
+    → IsTaken made asked (answer_of (decide log c actor asked))
+    → TenureIs actor made (tenure (with_lines (lines_of (decide log c actor asked)) log) made.tenure)
+begun_now actor c asked log made t =
+    let P : Command → Type 0 = λ w. answer_of (decide log c actor w) ≡ Ok (reply.Taken made.tenure t.now made.start)
+    → TenureIs actor made
+    (tenure (with_lines (lines_of (decide log c actor w)) log) made.tenure) in
     subst P (sym t.asked)
-    (λ e. leads_so (TakesSo by made.key log) (take_lease log c by made.key t.counter t.owner)
-    (take_begins log c by made.key t.counter t.owner) made t.now refl e) t.taken
+    (λ e. leads_so (TakesSo actor made.key log) (take_lease log c actor made.key t.counter t.owner)
+    (take_begins log c actor made.key t.counter t.owner) made t.now refl e) t.taken
 
-begun_turn : (by : ℕ) (turn : Turn) (h : List Turn) (made : Tenancy) (b : Bool) → (turn.by == by) ≡ b
-    → (IsBegunIn (deals_of by h) made → TenureIs by made (tenure (journal h) made.tenure))
-    → IsBegunIn (cond b (record { what = turn.what; answer = answer h turn } ∷ deals_of by h) (deals_of by h)) made
-    → TenureIs by made (tenure (journal (turn ∷ h)) made.tenure)
-begun_turn by turn h made false e before is =
-    kept_lines (lines_of (decide (journal h) (clock (turn ∷ h)) turn.by turn.what)) (journal h) by made.tenure made
-    (before is)
-begun_turn by turn h made true e before (inr is) =
-    kept_lines (lines_of (decide (journal h) (clock (turn ∷ h)) turn.by turn.what)) (journal h) by made.tenure made
-    (before is)
-begun_turn by turn h made true e before (inl is) =
-    subst (λ n. TenureIs n made (tenure (journal (turn ∷ h)) made.tenure)) (equal_so turn.by by e)
+begun_turn : (actor : ℕ) (turn : Turn) (h : List Turn) (made : Tenancy) (b : Bool) → (turn.by == actor) ≡ b
+    → (IsBegunIn (deals_of actor h) made → TenureIs actor made (tenure (journal h) made.tenure))
+    → IsBegunIn (cond b (record { what = turn.what; answer = answer h turn } ∷ deals_of actor h) (deals_of actor h))
+    made
+    → TenureIs actor made (tenure (journal (turn ∷ h)) made.tenure)
+begun_turn actor turn h made false e old is =
+    kept_lines (lines_of (decide (journal h) (clock (turn ∷ h)) turn.by turn.what)) (journal h) actor made.tenure made
+    (old is)
+begun_turn actor turn h made true e old (inr is) =
+    kept_lines (lines_of (decide (journal h) (clock (turn ∷ h)) turn.by turn.what)) (journal h) actor made.tenure made
+    (old is)
+begun_turn actor turn h made true e old (inl is) =
+    subst (λ n. TenureIs n made (tenure (journal (turn ∷ h)) made.tenure)) (equal_so turn.by actor e)
     (begun_now turn.by (clock (turn ∷ h)) turn.what (journal h) made is)
 
-tenure_is : (by : ℕ) (h : List Turn) (made : Tenancy) → IsBegunIn (deals_of by h) made
-    → TenureIs by made (tenure (journal h) made.tenure)
-tenure_is by [] made is = is
-tenure_is by (turn ∷ h) made is = begun_turn by turn h made (turn.by == by) refl (tenure_is by h made) is
+tenure_is : (actor : ℕ) (h : List Turn) (made : Tenancy) → IsBegunIn (deals_of actor h) made
+    → TenureIs actor made (tenure (journal h) made.tenure)
+tenure_is actor [] made is = is
+tenure_is actor (turn ∷ h) made is = begun_turn actor turn h made (turn.by == actor) refl (tenure_is actor h made) is
 
--- If an accepted Take of the actor `by` in the history `h` began the tenure in `made`, the journal of `h` has this
--- tenure. This tenure is the actor's, and has the key and the starting checkpoint in `made`.
-pub of_tenancy : (by : ℕ) (h : List Turn) (made : Tenancy) → IsBegunIn (deals_of by h) made → IsOfTenure by h made
-of_tenancy by h made is = go (tenure (journal h) made.tenure) refl (tenure_is by h made is)
+pub of_tenancy : (actor : ℕ) (h : List Turn) (made : Tenancy) → IsBegunIn (deals_of actor h) made
+    → IsOfTenure actor h made
+of_tenancy actor h made is = go (tenure (journal h) made.tenure) refl (tenure_is actor h made is)
   where
-    go : (o : Option TenureState) → tenure (journal h) made.tenure ≡ o → TenureIs by made o → IsOfTenure by h made
+    go : (o : Option TenureState) → tenure (journal h) made.tenure ≡ o → TenureIs actor made o → IsOfTenure actor h made
     go None e t = absurd t
     go (Some T) e t = record { state = T; begun = e; own = t.0; key = t.1; start = t.2 }
 
 -- ---- The consumers of a worker
 
--- One of the commands `deals` began the tenure of the consumer `k`.
+-- One of the commands began the consumer's tenure.
 abbrev pub IsBegun : List Deal → Known → Type 0
 IsBegun deals k = IsBegunIn deals k.made
 
--- If the chore is a step of the take plan, the command is a Take of the step's key.
+-- A command for a step of the take plan is a Take of the step's key.
 abbrev pub IsTakeOf : Chore → Command → Type 0
-IsTakeOf (Taking step takes) what = (counter : ℕ) × (owner : ℕ) × (what ≡ command.Take step.key counter owner)
-IsTakeOf _ what = Unit {0}
+IsTakeOf (Taking step takes) asked = (counter : ℕ) × (owner : ℕ) × (asked ≡ command.Take step.key counter owner)
+IsTakeOf _ asked = Unit {0}
 
--- If a command waits for its answer and the command's chore is a step of the take plan, the command is a Take of the
--- step's key.
+-- A command that waits for a step of the take plan is a Take of the step's key.
 abbrev pub IsTakeWaiting : Option Pending → Type 0
 IsTakeWaiting None = Unit {0}
 IsTakeWaiting (Some p) = IsTakeOf p.chore p.what
 
--- For each consumer of the worker, retired or not, one of the commands `deals` began the consumer's tenure. If the
--- command that waits is for a step of the take plan, it is a Take of the step's key.
+-- The worker's commands began the tenures of all its consumers, and a waiting Take has its step's key.
 pub record AreBegun (deals : List Deal) (w : WorkerState) : Type 0 where
   pub live : AllByRecursion (IsBegun deals) w.consumers
   pub over : AllByRecursion (IsBegun deals) w.retired
@@ -212,7 +207,7 @@ pub record AreBegun (deals : List Deal) (w : WorkerState) : Type 0 where
 
 one_more : (deal : Deal) (deals : List Deal) (xs : List Known) → AllByRecursion (IsBegun deals) xs
     → AllByRecursion (IsBegun (deal ∷ deals)) xs
-one_more deal deals xs h = all_map (IsBegun deals) (IsBegun (deal ∷ deals)) xs (λ k b. inr b) h
+one_more deal deals xs h = all_weaker (IsBegun deals) (IsBegun (deal ∷ deals)) (λ k b. inr b) xs h
 
 settle_begun : (deals : List Deal) (w : WorkerState) → AllByRecursion (IsBegun deals) w.consumers
     → AllByRecursion (IsBegun deals) w.retired
@@ -229,8 +224,8 @@ settle_begun deals w live over waits = record {
 consumer_waits : (id : _) (finishing : Bool) (o : Option Command)
     → IsTakeWaiting (pending_of (cond finishing (Finishing id) (Consuming id)) o)
 consumer_waits id finishing None = tt
-consumer_waits id true (Some what) = tt
-consumer_waits id false (Some what) = tt
+consumer_waits id true (Some asked) = tt
+consumer_waits id false (Some asked) = tt
 
 chore_waits : (made : WorkerMade) (w : WorkerState) (o : Option Chore) → IsTakeWaiting (pending_chore made w o)
 chore_waits made w None = tt
@@ -257,14 +252,14 @@ survey_begun made now (Ok _) deals w none live over = settle_begun deals w live 
 survey_begun made now (Err r) deals w none live over =
     settle_begun deals w live over (subst IsTakeWaiting (sym none) tt)
 
-take_begun : (made : WorkerMade) (now : ℕ) (step : TakeStep) (what : Command) (answer : Result Reply Refusal)
+take_begun : (made : WorkerMade) (now : ℕ) (step : TakeStep) (request : Command) (answer : Result Reply Refusal)
     (deals : List Deal) (w : WorkerState)
-    → w.waiting ≡ None → ((counter : ℕ) × (owner : ℕ) × (what ≡ command.Take step.key counter owner))
+    → w.waiting ≡ None → ((counter : ℕ) × (owner : ℕ) × (request ≡ command.Take step.key counter owner))
     → AllByRecursion (IsBegun deals) w.consumers
     → AllByRecursion (IsBegun deals) w.retired
-    → AreBegun (record { what = what; answer = answer } ∷ deals) (after_retiring (after_take made now step answer w))
-take_begun made now step what (Ok (reply.Taken tenure counter start)) deals w none is live over =
-    let deal : Deal = record { what = what; answer = Ok (reply.Taken tenure counter start) } in
+    → AreBegun (record { what = request; answer = answer } ∷ deals) (after_retiring (after_take made now step answer w))
+take_begun made now step request (Ok (reply.Taken tenure counter start)) deals w none is live over =
+    let deal : Deal = record { what = request; answer = Ok (reply.Taken tenure counter start) } in
     let k : Known = record {
       made = record {
         key = step.key;
@@ -279,12 +274,12 @@ take_begun made now step what (Ok (reply.Taken tenure counter start)) deals w no
     (inl (record { counter = is.0; owner = is.1; now = counter; asked = is.2; taken = refl }))
     (one_more deal deals w.consumers live))
     (one_more deal deals w.retired over) (subst IsTakeWaiting (sym none) tt)
-take_begun made now step what (Ok _) deals w none is live over =
-    let deal : Deal = record { what = what; answer = _ } in
+take_begun made now step request (Ok _) deals w none is live over =
+    let deal : Deal = record { what = request; answer = _ } in
     settle_begun (deal ∷ deals) w (one_more deal deals w.consumers live) (one_more deal deals w.retired over)
     (subst IsTakeWaiting (sym none) tt)
-take_begun made now step what (Err r) deals w none is live over =
-    let deal : Deal = record { what = what; answer = Err r } in
+take_begun made now step request (Err r) deals w none is live over =
+    let deal : Deal = record { what = request; answer = Err r } in
     settle_begun (deal ∷ deals) w (one_more deal deals w.consumers live) (one_more deal deals w.retired over)
     (subst IsTakeWaiting (sym none) tt)
 
@@ -308,38 +303,38 @@ consumed_begun id answer deals xs h =
     all_first (IsBegun deals) (λ k. same_id (id_of k) id) (Answered answer) xs (λ k b. b) h
 
 chore_begun : (made : WorkerMade) (now : ℕ) (answer : Result Reply Refusal) (deals : List Deal) (chore : Chore)
-    (what : Command) (w : WorkerState)
-    → w.waiting ≡ None → IsTakeOf chore what → AllByRecursion (IsBegun deals) w.consumers
+    (asked : Command) (w : WorkerState)
+    → w.waiting ≡ None → IsTakeOf chore asked → AllByRecursion (IsBegun deals) w.consumers
     → AllByRecursion (IsBegun deals) w.retired
-    → AreBegun (record { what = what; answer = answer } ∷ deals) (after_retiring (after_chore made now answer chore w))
-chore_begun made now answer deals Surveying what w none is live over =
-    let deal : Deal = record { what = what; answer = answer } in
+    → AreBegun (record { what = asked; answer = answer } ∷ deals) (after_retiring (after_chore made now answer chore w))
+chore_begun made now answer deals Surveying asked w none is live over =
+    let deal : Deal = record { what = asked; answer = answer } in
     survey_begun made now answer (deal ∷ deals) w none (one_more deal deals w.consumers live)
     (one_more deal deals w.retired over)
-chore_begun made now answer deals (Syncing step syncs takes) what w none is live over =
-    let deal : Deal = record { what = what; answer = answer } in
+chore_begun made now answer deals (Syncing step syncs takes) asked w none is live over =
+    let deal : Deal = record { what = asked; answer = answer } in
     settle_begun (deal ∷ deals) (after_chore made now answer (Syncing step syncs takes) w)
     (one_more deal deals w.consumers live) (one_more deal deals w.retired over) (subst IsTakeWaiting (sym none) tt)
-chore_begun made now answer deals (Taking step takes) what w none is live over =
-    take_begun made now step what answer deals (record w { round = AtTakes takes }) none is live over
-chore_begun made now answer deals (Renewing h) what w none is live over =
-    let deal : Deal = record { what = what; answer = answer } in
+chore_begun made now answer deals (Taking step takes) asked w none is live over =
+    take_begun made now step asked answer deals (record w { round = AtTakes takes }) none is live over
+chore_begun made now answer deals (Renewing h) asked w none is live over =
+    let deal : Deal = record { what = asked; answer = answer } in
     renewal_begun now h answer (deal ∷ deals) (record w { round = AtRenewals (Some (id_of_held h)) }) none
     (one_more deal deals w.consumers live) (one_more deal deals w.retired over)
-chore_begun made now answer deals (Consuming id) what w none is live over =
-    let deal : Deal = record { what = what; answer = answer } in
+chore_begun made now answer deals (Consuming id) asked w none is live over =
+    let deal : Deal = record { what = asked; answer = answer } in
     settle_begun (deal ∷ deals) (after_chore made now answer (Consuming id) w)
     (consumed_begun id answer (deal ∷ deals) w.consumers (one_more deal deals w.consumers live))
     (one_more deal deals w.retired over)
     (subst IsTakeWaiting (sym none) tt)
-chore_begun made now answer deals (Finishing id) what w none is live over =
-    let deal : Deal = record { what = what; answer = answer } in
+chore_begun made now answer deals (Finishing id) asked w none is live over =
+    let deal : Deal = record { what = asked; answer = answer } in
     settle_begun (deal ∷ deals) (after_chore made now answer (Finishing id) w)
     (consumed_begun id answer (deal ∷ deals) w.consumers (one_more deal deals w.consumers live))
     (one_more deal deals w.retired over)
     (subst IsTakeWaiting (sym none) tt)
-chore_begun made now answer deals (Freeing h) what w none is live over =
-    let deal : Deal = record { what = what; answer = answer } in
+chore_begun made now answer deals (Freeing h) asked w none is live over =
+    let deal : Deal = record { what = asked; answer = answer } in
     settle_begun (deal ∷ deals) (after_chore made now answer (Freeing h) w)
     (one_more deal deals w.consumers live) (one_more deal deals w.retired over) (subst IsTakeWaiting (sym none) tt)
 
@@ -358,8 +353,6 @@ release_begun deals (Some r) w b =
 
 -- ---- The record
 
--- If the worker's commands `deals` began the tenures of all consumers of the worker before an event (`AreBegun`), this
--- is also so of the commands and the consumers after the event.
 pub state_begun : (made : WorkerMade) (event : WorkerEvent) (w : WorkerState) (deals : List Deal) → AreBegun deals w
     → AreBegun (deals_with event w deals) (after_worker_event made event w)
 state_begun made (Made_call asked) w deals b =
@@ -373,28 +366,21 @@ state_begun made Stopped w deals b =
     (all_event (IsBegun deals) (λ k. true) Losing w.consumers (λ k g. g) b.live) b.over b.waits
 state_begun made (Released key) w deals b = release_begun deals (released key w) w b
 
--- After each record of a worker, the answered commands of the record began the tenures of all consumers of the worker
--- (`AreBegun`).
 pub are_begun : (made : WorkerMade) (past : WorkerPast) → AreBegun (deals_after made past) (worker_after made past)
 are_begun made [] = record { live = tt; over = tt; waits = tt }
 are_begun made (event ∷ past) =
     state_begun made event (worker_after made past) (deals_after made past) (are_begun made past)
 
--- Let the commands of the actor `by` in the history `h` have begun the tenures of all consumers in `xs`. Then each of
--- these consumers belongs to a tenure of the history (`IsOfTenure`).
-pub all_tenures : (by : ℕ) (h : List Turn) (xs : List Known) → AllByRecursion (IsBegun (deals_of by h)) xs
-    → AllByRecursion (λ k. IsOfTenure by h k.made) xs
-all_tenures by h xs b =
-    all_map (IsBegun (deals_of by h)) (λ k. IsOfTenure by h k.made) xs (λ k g. of_tenancy by h k.made g) b
+pub all_tenures : (actor : ℕ) (h : List Turn) (xs : List Known) → AllByRecursion (IsBegun (deals_of actor h)) xs
+    → AllByRecursion (λ k. IsOfTenure actor h k.made) xs
+all_tenures actor h xs b =
+    all_weaker (IsBegun (deals_of actor h)) (λ k. IsOfTenure actor h k.made) (λ k g. of_tenancy actor h k.made g) xs b
 
--- Let the turns of the actor `by` in the history `h` be the commands of the worker's record with their answers. Then
--- the actor's commands began the tenures of all consumers of the worker (`AreBegun`).
-pub begun_told : (by : ℕ) (h : List Turn) (made : WorkerMade) (past : WorkerPast) → IsToldIn by h made past
-    → AreBegun (deals_of by h) (worker_after made past)
-begun_told by h made past told =
-    subst (λ deals. AreBegun deals (worker_after made past)) (sym told) (are_begun made past)
+pub begun_told : (actor : ℕ) (h : List Turn) (made : WorkerMade) (past : WorkerPast) → IsToldIn actor h made past
+    → AreBegun (deals_of actor h) (worker_after made past)
+begun_told actor h made past is_told =
+    subst (λ deals. AreBegun deals (worker_after made past)) (sym is_told) (are_begun made past)
 
--- If `P` holds of all consumers in `xs` and `Q` does too, both hold together of each of them.
 pub all_both : (P Q : Known → Type 0) (xs : List Known) → AllByRecursion P xs → AllByRecursion Q xs
     → AllByRecursion (λ k. P k × Q k) xs
 all_both P Q [] h g = tt

@@ -1,10 +1,9 @@
--- The processors of a worker's consumers are called for the given reads of their tenures. This follows since each event
--- keeps two facts true (`AreGood`, `IsFine`). Each tenure has at most one consumer, and the consumers' records agree
--- with the worker's commands on the reads and gives of their tenures.
+-- Processors of a worker's consumers are called for the given reads of their tenures, by induction over events.
 use Rattle.std.proofs.Common.{◌≡◌, ℕ, ◌+◌, ◌≤◌, Bool, true, false, List, [], ◌∷◌, Option, Some, None, Ok, Err}
 use Rattle.std.proofs.Common.{refl, sym, subst, arith}
 use Rattle.std.specs.Prelude.{◌==◌, not, if◌then◌else◌, Result}
 use Rattle.std.specs.List.{AllByRecursion, filter}
+use Rattle.kds_base.proofs.Facts.{all_weaker}
 use Rattle.kds_defs.specs.declared.command.Command.{Command}
 use Rattle.kds_defs.specs.declared.command.Command.TheVariants as command
 use Rattle.kcl_defs.specs.declared.consumer.Ask.{Ask}
@@ -34,7 +33,7 @@ use Rattle.kcl_defs.specs.Workers.{still_stands}
 use Rattle.kds_defs.specs.declared.command.Turn.{Turn}
 use Rattle.kcl_defs.specs.WorkerLives.{MayHappen, IsOrderly, IsToldIn}
 use Rattle.kcl_defs.proofs.StepLemmas.{called_keeps, life_among}
-use Rattle.kcl_defs.proofs.KnownLemmas.{InStep, IsAbout, IsQuiet, about, all_map, times}
+use Rattle.kcl_defs.proofs.KnownLemmas.{InStep, IsAbout, IsQuiet, about, times}
 use Rattle.kcl_defs.proofs.FineLemmas.{AreGood, AreNewTenures, IsFine, IsNewTenure, IsOwnCommand, IsWaitingOk}
 use Rattle.kcl_defs.proofs.FineLemmas.{finish_chore}
 use Rattle.kcl_defs.proofs.FineLemmas.{first_good, found_tenure, lost_good, own_good, pending_ok, quiet_good}
@@ -62,8 +61,6 @@ stop_fine deals w none f =
     settle_fine deals (record w { round = AtStopping; consumers = happens_to (λ k. true) Losing w.consumers }) none
     (lost_good deals (λ k. true) w.consumers w.retired f.good)
 
--- If `P` holds of all consumers in `xs`, it still holds of all after the consumer of the lease `id` was taken out of
--- the list.
 pub all_without : (P : Known → Type 0) (id : TenancyId) (xs : List Known) → AllByRecursion P xs
     → AllByRecursion P (without_known id xs)
 all_without P id [] h = tt
@@ -114,8 +111,6 @@ release_fine deals (Some r) w none f = record {
   waits = subst (λ o. IsWaitingOk o (without_release (Some r) w)) (sym none) tt;
 }
 
--- If each tenure has at most one consumer and the records agree with the commands (`AreGood`), this is still so after
--- the answer to the next command of the consumer of the lease `id`.
 consumer_good : (id : TenancyId) (deal : Deal) (deals : List Deal) (w : WorkerState) (o : Option Known)
     → known_of id w.consumers ≡ o → consumer_command w o ≡ Some deal.what → AreGood deals w.consumers w.retired
     → AreGood (deal ∷ deals) (consumed id deal.answer w.consumers) w.retired
@@ -140,83 +135,81 @@ renewal_good now h (Ok (reply.Counter counter)) deals w g = g
 renewal_good now h (Ok _) deals w g = g
 renewal_good now h (Err r) deals w g = lost_good deals (λ k. same_id (id_of k) (id_of_held h)) w.consumers w.retired g
 
-take_good : (made : WorkerMade) (now : ℕ) (step : TakeStep) (what : Command) (answer : Result Reply Refusal)
-    (deals : List Deal) (w : WorkerState) → IsQuiet what → IsNewTenure answer deals
+take_good : (made : WorkerMade) (now : ℕ) (step : TakeStep) (asked : Command) (answer : Result Reply Refusal)
+    (deals : List Deal) (w : WorkerState) → IsQuiet asked → IsNewTenure answer deals
     → AreGood deals w.consumers w.retired
-    → AreGood (record { what = what; answer = answer } ∷ deals) (after_take made now step answer w).consumers
+    → AreGood (record { what = asked; answer = answer } ∷ deals) (after_take made now step answer w).consumers
     (after_take made now step answer w).retired
-take_good made now step what (Ok (reply.Taken tenure counter start)) deals w is new g =
-    taken_good (record { what = what; answer = Ok (reply.Taken tenure counter start) }) deals
+take_good made now step asked (Ok (reply.Taken tenure counter start)) deals w is new g =
+    taken_good (record { what = asked; answer = Ok (reply.Taken tenure counter start) }) deals
     (record {
       made = record { key = step.key; tenure = tenure; start = start; limit = made.settings.limit };
       past = [];
     })
     w.consumers w.retired is refl (λ t. refl) new.0 new.1 new.2 g
-take_good made now step what (Ok _) deals w is new g =
-    quiet_good (record { what = what; answer = _ }) deals w.consumers w.retired is g
-take_good made now step what (Err r) deals w is new g =
-    quiet_good (record { what = what; answer = Err r }) deals w.consumers w.retired is g
+take_good made now step asked (Ok _) deals w is new g =
+    quiet_good (record { what = asked; answer = _ }) deals w.consumers w.retired is g
+take_good made now step asked (Err r) deals w is new g =
+    quiet_good (record { what = asked; answer = Err r }) deals w.consumers w.retired is g
 
-survey_none : (made : WorkerMade) (now : ℕ) (answer : Result Reply Refusal) (w : WorkerState) → w.waiting ≡ None
+pub survey_none : (made : WorkerMade) (now : ℕ) (answer : Result Reply Refusal) (w : WorkerState) → w.waiting ≡ None
     → (after_survey made now answer w).waiting ≡ None
 survey_none made now (Ok (reply.Survey shards rows)) w none = none
 survey_none made now (Ok _) w none = none
 survey_none made now (Err r) w none = none
 
-renewal_none : (now : ℕ) (h : Held) (answer : Result Reply Refusal) (w : WorkerState) → w.waiting ≡ None
+pub renewal_none : (now : ℕ) (h : Held) (answer : Result Reply Refusal) (w : WorkerState) → w.waiting ≡ None
     → (after_renewal now h answer w).waiting ≡ None
 renewal_none now h (Ok (reply.Counter counter)) w none = none
 renewal_none now h (Ok _) w none = none
 renewal_none now h (Err r) w none = none
 
-take_none : (made : WorkerMade) (now : ℕ) (step : TakeStep) (answer : Result Reply Refusal) (w : WorkerState)
+pub take_none : (made : WorkerMade) (now : ℕ) (step : TakeStep) (answer : Result Reply Refusal) (w : WorkerState)
     → w.waiting ≡ None → (after_take made now step answer w).waiting ≡ None
 take_none made now step (Ok (reply.Taken tenure counter start)) w none = none
 take_none made now step (Ok _) w none = none
 take_none made now step (Err r) w none = none
 
--- If each tenure has at most one consumer and the records agree with the commands (`AreGood`), this is still so after
--- the answer to the command `what` of the chore (`IsFine`). If the answer begins a tenure, this tenure must be new.
 chore_fine : (made : WorkerMade) (now : ℕ) (answer : Result Reply Refusal) (deals : List Deal) (chore : Chore)
-    (what : Command) (w : WorkerState) → w.waiting ≡ None → IsOwnCommand chore what w → IsNewTenure answer deals
+    (asked : Command) (w : WorkerState) → w.waiting ≡ None → IsOwnCommand chore asked w → IsNewTenure answer deals
     → AreGood deals w.consumers w.retired
-    → IsFine (record { what = what; answer = answer } ∷ deals) (after_retiring (after_chore made now answer chore w))
-chore_fine made now answer deals Surveying what w none is new g =
+    → IsFine (record { what = asked; answer = answer } ∷ deals) (after_retiring (after_chore made now answer chore w))
+chore_fine made now answer deals Surveying asked w none is new g =
     settle_fine _ (after_survey made now answer w) (survey_none made now answer w none)
-    (survey_good made now answer (record { what = what; answer = answer } ∷ deals) w
-    (quiet_good (record { what = what; answer = answer }) deals w.consumers w.retired is g))
-chore_fine made now answer deals (Syncing step syncs takes) what w none is new g =
+    (survey_good made now answer (record { what = asked; answer = answer } ∷ deals) w
+    (quiet_good (record { what = asked; answer = answer }) deals w.consumers w.retired is g))
+chore_fine made now answer deals (Syncing step syncs takes) asked w none is new g =
     settle_fine _ (record w { round = AtSync syncs takes }) none
-    (quiet_good (record { what = what; answer = answer }) deals w.consumers w.retired is g)
-chore_fine made now answer deals (Taking step takes) what w none is new g =
+    (quiet_good (record { what = asked; answer = answer }) deals w.consumers w.retired is g)
+chore_fine made now answer deals (Taking step takes) asked w none is new g =
     settle_fine _ (after_take made now step answer (record w { round = AtTakes takes }))
     (take_none made now step answer (record w { round = AtTakes takes }) none)
-    (take_good made now step what answer deals (record w { round = AtTakes takes }) is new g)
-chore_fine made now answer deals (Renewing h) what w none is new g =
+    (take_good made now step asked answer deals (record w { round = AtTakes takes }) is new g)
+chore_fine made now answer deals (Renewing h) asked w none is new g =
     settle_fine _ (after_renewal now h answer (record w { round = AtRenewals (Some (id_of_held h)) }))
     (renewal_none now h answer (record w { round = AtRenewals (Some (id_of_held h)) }) none)
-    (renewal_good now h answer (record { what = what; answer = answer } ∷ deals)
+    (renewal_good now h answer (record { what = asked; answer = answer } ∷ deals)
     (record w { round = AtRenewals (Some (id_of_held h)) })
-    (quiet_good (record { what = what; answer = answer }) deals w.consumers w.retired is g))
-chore_fine made now answer deals (Consuming id) what w none is new g =
+    (quiet_good (record { what = asked; answer = answer }) deals w.consumers w.retired is g))
+chore_fine made now answer deals (Consuming id) asked w none is new g =
     settle_fine _ (after_consumer now id answer (record w { round = AtConsumers (Some id) })) none
-    (consumer_good id (record { what = what; answer = answer }) deals w (known_of id w.consumers) refl is g)
-chore_fine made now answer deals (Finishing id) what w none is new g =
+    (consumer_good id (record { what = asked; answer = answer }) deals w (known_of id w.consumers) refl is g)
+chore_fine made now answer deals (Finishing id) asked w none is new g =
     settle_fine _ (record w { consumers = consumed id answer w.consumers }) none
-    (consumer_good id (record { what = what; answer = answer }) deals w (known_of id w.consumers) refl is g)
-chore_fine made now answer deals (Freeing h) what w none is new g =
+    (consumer_good id (record { what = asked; answer = answer }) deals w (known_of id w.consumers) refl is g)
+chore_fine made now answer deals (Freeing h) asked w none is new g =
     settle_fine _ (record w { held = without_held (id_of_held h) w.held }) none
-    (quiet_good (record { what = what; answer = answer }) deals w.consumers w.retired is g)
+    (quiet_good (record { what = asked; answer = answer }) deals w.consumers w.retired is g)
 
-own_without : (chore : Chore) (what : Command) (w : WorkerState) → IsOwnCommand chore what w
-    → IsOwnCommand chore what (record w { waiting = None })
-own_without (Consuming id) what w h = h
-own_without (Finishing id) what w h = h
-own_without Surveying what w h = h
-own_without (Syncing step syncs takes) what w h = h
-own_without (Taking step takes) what w h = h
-own_without (Renewing g) what w h = h
-own_without (Freeing g) what w h = h
+pub own_without : (chore : Chore) (asked : Command) (w : WorkerState) → IsOwnCommand chore asked w
+    → IsOwnCommand chore asked (record w { waiting = None })
+own_without (Consuming id) asked w h = h
+own_without (Finishing id) asked w h = h
+own_without Surveying asked w h = h
+own_without (Syncing step syncs takes) asked w h = h
+own_without (Taking step takes) asked w h = h
+own_without (Renewing g) asked w h = h
+own_without (Freeing g) asked w h = h
 
 absorbed_fine : (made : WorkerMade) (now : ℕ) (answer : Result Reply Refusal) (deals : List Deal) (w : WorkerState)
     (o : Option Pending) → IsWaitingOk o w → AreNewTenures (with_deal o answer deals) → IsFine deals w
@@ -231,15 +224,15 @@ pending_asked : (o : Option Pending) (w : WorkerState) (p : Option Pending) → 
 pending_asked None w p h = tt
 pending_asked (Some q) w p h = own_asked q.chore q.what w p h
   where
-    own_asked : (chore : Chore) (what : Command) (w : WorkerState) (p : Option Pending) → IsOwnCommand chore what w
-        → IsOwnCommand chore what (record w { waiting = p })
-    own_asked (Consuming id) what w p h = h
-    own_asked (Finishing id) what w p h = h
-    own_asked Surveying what w p h = h
-    own_asked (Syncing step syncs takes) what w p h = h
-    own_asked (Taking step takes) what w p h = h
-    own_asked (Renewing g) what w p h = h
-    own_asked (Freeing g) what w p h = h
+    own_asked : (chore : Chore) (asked : Command) (w : WorkerState) (p : Option Pending) → IsOwnCommand chore asked w
+        → IsOwnCommand chore asked (record w { waiting = p })
+    own_asked (Consuming id) asked w p h = h
+    own_asked (Finishing id) asked w p h = h
+    own_asked Surveying asked w p h = h
+    own_asked (Syncing step syncs takes) asked w p h = h
+    own_asked (Taking step takes) asked w p h = h
+    own_asked (Renewing g) asked w p h = h
+    own_asked (Freeing g) asked w p h = h
 
 asked_fine : (made : WorkerMade) (now : ℕ) (deals : List Deal) (w : WorkerState) → IsFine deals w
     → IsFine deals (after_asked made now w)
@@ -249,22 +242,18 @@ asked_fine made now deals w f = record {
       (pending_ok made w (chore_at made now w) (finish_chore deals made.settings.failover now w w.round f.good));
 }
 
--- If each tenure that an answer begins is new among the commands after an event (`AreNewTenures`), this is also so
--- among the commands `deals` before the event.
 pub new_before : (event : WorkerEvent) (w : WorkerState) (deals : List Deal) → AreNewTenures (deals_with event w deals)
     → AreNewTenures deals
-new_before (Got_answer now answer) w deals h = before w.waiting h
+new_before (Got_answer now answer) w deals h = cases w.waiting h
   where
-    before : (o : Option Pending) → AreNewTenures (with_deal o answer deals) → AreNewTenures deals
-    before None h = h
-    before (Some p) h = h.1
+    cases : (o : Option Pending) → AreNewTenures (with_deal o answer deals) → AreNewTenures deals
+    cases None h = h
+    cases (Some p) h = h.1
 new_before (Made_call asked) w deals h = h
 new_before (Gave_command now) w deals h = h
 new_before Stopped w deals h = h
 new_before (Released key) w deals h = h
 
--- If each tenure has at most one consumer and the consumers' records agree with the commands (`IsFine`), this is still
--- so after an event that may happen. Each tenure that an answer begins must be new.
 pub state_fine : (made : WorkerMade) (event : WorkerEvent) (w : WorkerState) (deals : List Deal)
     → MayHappen made event w → AreNewTenures (deals_with event w deals) → IsFine deals w
     → IsFine (deals_with event w deals) (after_worker_event made event w)
@@ -281,8 +270,6 @@ event_fine : (made : WorkerMade) (event : WorkerEvent) (past : WorkerPast)
     → IsFine (deals_after made (event ∷ past)) (worker_after made (event ∷ past))
 event_fine made event past may new f = state_fine made event (worker_after made past) (deals_after made past) may new f
 
--- Suppose that a record results from calls that meet their preconditions, and that each tenure that an answer begins is
--- new. Then each tenure has at most one consumer, and the consumers' records agree with the commands (`IsFine`).
 pub fine : (made : WorkerMade) (past : WorkerPast) → IsOrderly made past → AreNewTenures (deals_after made past)
     → IsFine (deals_after made past) (worker_after made past)
 fine made [] orderly new = record {
@@ -293,25 +280,18 @@ fine made (event ∷ past) orderly new =
     event_fine made event past orderly.0 new
     (fine made past orderly.1 (new_before event (worker_after made past) (deals_after made past) new))
 
--- Suppose that a worker's record results from calls that meet their preconditions, and that each tenure that an answer
--- begins is new. Then the calls of the processors of the worker's consumers fit the reads and gives of the consumers'
--- tenures among the worker's commands (`IsLifeAmong`).
 live_among : (made : WorkerMade) (past : WorkerPast) → IsOrderly made past → AreNewTenures (deals_after made past)
     → AllByRecursion (λ k. IsLifeAmong (deals_after made past) k.made (calls_after k.made k.past))
     (worker_after made past).consumers
 live_among made past orderly new =
-    all_map (InStep (deals_after made past)) _ (worker_after made past).consumers
-    (λ k s. life_among (deals_after made past) k.made k.past s) (fine made past orderly new).good.live
+    all_weaker (InStep (deals_after made past)) _ (λ k s. life_among (deals_after made past) k.made k.past s)
+    (worker_after made past).consumers (fine made past orderly new).good.live
 
--- Let the turns of the actor `by` in the history `h` be the commands of the worker's record with their answers. Let the
--- record result from calls that meet their preconditions, and let each tenure that an answer begins be new. Then the
--- calls of the processors of the worker's consumers fit the accepted reads and Gives of the consumers' tenures in `h`
--- (`IsLifeIn`).
-pub live_served : (by : ℕ) (h : List Turn) (made : WorkerMade) (past : WorkerPast) → IsOrderly made past
-    → IsToldIn by h made past → AreNewTenures (deals_of by h)
-    → AllByRecursion (λ k. IsLifeIn by h k.made (calls_after k.made k.past)) (worker_after made past).consumers
-live_served by h made past orderly told new =
+pub live_served : (actor : ℕ) (h : List Turn) (made : WorkerMade) (past : WorkerPast) → IsOrderly made past
+    → IsToldIn actor h made past → AreNewTenures (deals_of actor h)
+    → AllByRecursion (λ k. IsLifeIn actor h k.made (calls_after k.made k.past)) (worker_after made past).consumers
+live_served actor h made past orderly is_told new =
     let P : List Deal → Type 0 =
     λ deals. AllByRecursion (λ k. IsLifeAmong deals k.made (calls_after k.made k.past))
     (worker_after made past).consumers in
-    subst P (sym told) (live_among made past orderly (subst AreNewTenures told new))
+    subst P (sym is_told) (live_among made past orderly (subst AreNewTenures is_told new))

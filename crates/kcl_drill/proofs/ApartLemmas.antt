@@ -1,6 +1,4 @@
--- Let a history have only basic commands, and let its clock be below 24 hours. Then the lines on streams that it leaves
--- depend only on its commands for the stream service. Clocks don't count here, and an actor counts only by the value of
--- a function `f` for it.
+-- After basic commands, below 24 hours, the lines on streams depend only on the commands for the stream service.
 use Rattle.std.proofs.Common.{◌≡◌, ℕ, ◌+◌, ◌<◌, ◌≤◌, max, Bool, true, false, List, [], ◌∷◌, length, Option, Some, None}
 use Rattle.std.proofs.Common.{refl, sym, ap, subst, ◌∙◌, arith}
 use Rattle.std.specs.Prelude.{◌==◌, ◌&&◌, ◌||◌, not, nat_le, nat_lt, map, cond, is_some, if◌then◌else◌}
@@ -40,12 +38,9 @@ use Rattle.kcl_drill.proofs.Readings.{open_count_same, IsYoung, young_if_legal, 
 
 -- ---- Two decisions that add the same lines
 
--- The two decisions add the same lines, once each line has the clock 0 and the value of `f` for its actor (`forget`).
 pub AddsSame : (ℕ → ℕ) → Decision → Decision → Type 0
 AddsSame f d d' = map (forget f) (lines_of d) ≡ map (forget f) (lines_of d')
 
--- Suppose that two decisions add the same lines, and that `b` and `b'` are equal. If both decisions are replaced by a
--- refusal where `b` or `b'` is true, they still add the same lines.
 if_same : (f : ℕ → ℕ) (r r' : Refusal) (b b' : Bool) (d d' : Decision) → b ≡ b' → AddsSame f d d'
     → AddsSame f (refuse r if b else d) (refuse r' if b' else d')
 unfolding refuse◌if◌else◌ AddsSame
@@ -54,8 +49,6 @@ if_same f r r' true false d d' is so = absurd cc
 if_same f r r' false true d d' is so = absurd cc
 if_same f r r' false false d d' is so = so
 
--- If `d x` and `d' x` add the same lines for each `x`, this is also true of two decisions that take `x` from equal
--- options. They refuse if there is no value.
 with_same : {A : Type 0} (f : ℕ → ℕ) (o o' : Option A) (r : Refusal) (d d' : A → Decision) → o ≡ o'
     → ((x : A) → AddsSame f (d x) (d' x))
     → AddsSame f (with o or r then d) (with o' or r then d')
@@ -65,18 +58,16 @@ with_same f None (Some x) r d d' is so = absurd cc
 with_same f (Some x) None r d d' is so = absurd cc
 with_same f (Some x) (Some y) r d d' is so = let e : x ≡ y = cc in so x ∙ ap (λ z. map (forget f) (lines_of (d' z))) e
 
--- If the lines of two accepted decisions are the same after `forget`, the decisions add the same lines (`AddsSame`).
 lines_same : (f : ℕ → ℕ) (ls ls' : List Line) (r r' : Reply) → map (forget f) ls ≡ map (forget f) ls'
     → AddsSame f (Accepted ls r) (Accepted ls' r')
 unfolding AddsSame
 lines_same f ls ls' r r' is = is
 
--- The decisions on a query after two journals add the same lines, since a query adds none.
-queries_same : (f : ℕ → ℕ) (log log' : Journal) (c c' by by' : ℕ) (what : Command) → is_query what ≡ true
-    → AddsSame f (decide log c by what) (decide log' c' by' what)
+queries_same : (f : ℕ → ℕ) (log log' : Journal) (c c' actor actor' : ℕ) (request : Command) → is_query request ≡ true
+    → AddsSame f (decide log c actor request) (decide log' c' actor' request)
 unfolding AddsSame
-queries_same f log log' c c' by by' what query =
-    ap (map (forget f)) (query_idle log c by what query ∙ sym (query_idle log' c' by' what query))
+queries_same f log log' c c' actor actor' request query =
+    ap (map (forget f)) (query_idle log c actor request query ∙ sym (query_idle log' c' actor' request query))
 
 -- ---- The limits on throughput are off
 
@@ -84,94 +75,81 @@ queries_same f log log' c c' by by' what query =
 abbrev pub IsCalm : Journal → Type 0
 IsCalm log = (s : ℕ) → is_enforced log s ≡ false
 
--- If no stream has its limits on, no put is held back.
 not_held : (log : Journal) (c s : ℕ) (item : NewItem) → IsCalm log → is_held_back log c s item ≡ false
 not_held log c s item calm =
     ap (λ b. b && is_throttled (puts log s (home log s item.hash)) c (item_bytes item)) (calm s)
 
--- If no stream of a journal has its limits on, this is also true of the journal's lines on streams alone (`kept`).
 calm_kept : (f : ℕ → ℕ) (log : Journal) → IsCalm log → IsCalm (kept f log)
 calm_kept f log calm = λ s. sym (enforced_same f log s) ∙ calm s
 
 -- ---- Puts
 
--- The line of a put of the item `item` into the stream `s`, with the stream's next sequence number.
+-- The line of a put into the stream `s` with its next sequence number.
 abbrev put_next : Journal → ℕ → ℕ → ℕ → NewItem → Line
-put_next log c by s item = put_line log c by s (next_number log s) item
+put_next log c actor s item = put_line log c actor s (next_number log s) item
 
--- The line of a put of the item `item` by the actor `by` at the clock 0, into the shard `sh` of the stream `s` with the
--- sequence number `n`.
+-- The line of a put by the actor `actor` at the clock 0, into the shard `sh` with the sequence number `n`.
 abbrev bare_put : ℕ → ℕ → ℕ → ℕ → NewItem → Line
-bare_put by s sh n item = record {
+bare_put actor s sh n item = record {
   clock = 0;
-  by = by;
+  by = actor;
   what = entry.Put s sh n item.hash (length item.payload) (length item.key);
   key = item.key;
   payload = item.payload;
 }
 
--- If no stream has its limits on, a put of several items adds the line of the first item, and then the lines of the
--- other items after this line.
-taken : (log : Journal) (c by s : ℕ) (item : NewItem) (items : List NewItem) → IsCalm log
-    → put_lines log c by s (item ∷ items) ≡ put_next log c by s item
-    ∷ put_lines (put_next log c by s item ∷ log) c by s items
-taken log c by s item items calm =
-    ap (λ b. if b then put_lines log c by s items else put_next log c by s item
-    ∷ put_lines (put_next log c by s item ∷ log) c by s items)
+taken : (log : Journal) (c actor s : ℕ) (item : NewItem) (items : List NewItem) → IsCalm log
+    → put_lines log c actor s (item ∷ items) ≡ put_next log c actor s item
+    ∷ put_lines (put_next log c actor s item ∷ log) c actor s items
+taken log c actor s item items calm =
+    ap (λ b. if b then put_lines log c actor s items else put_next log c actor s item
+    ∷ put_lines (put_next log c actor s item ∷ log) c actor s items)
     (not_held log c s item calm)
 
-module _ (f : ℕ → ℕ) (c by by' : ℕ) (alike : f by ≡ by') (again : f by ≡ f by') where
-  -- After `forget`, the line of a put follows from the lines on streams alone. `n` is the value of `f` for the line's
-  -- actor.
-  line_by : (log : Journal) (s n : ℕ) (item : NewItem) → f by ≡ n
-      → forget f (put_next log c by s item)
+module _ (f : ℕ → ℕ) (c actor actor' : ℕ) (alike : f actor ≡ actor') (again : f actor ≡ f actor') where
+  line_by : (log : Journal) (s n : ℕ) (item : NewItem) → f actor ≡ n
+      → forget f (put_next log c actor s item)
       ≡ bare_put n s (home (kept f log) s item.hash) (next_number (kept f log) s) item
   line_by log s n item is =
-      ap (λ sh. bare_put (f by) s sh (next_number log s) item) (home_same f log s item.hash)
-      ∙ ap (λ m. bare_put (f by) s (home (kept f log) s item.hash) m item) (next_number_same f log s)
+      ap (λ sh. bare_put (f actor) s sh (next_number log s) item) (home_same f log s item.hash)
+      ∙ ap (λ m. bare_put (f actor) s (home (kept f log) s item.hash) m item) (next_number_same f log s)
       ∙ ap (λ k. bare_put k s (home (kept f log) s item.hash) (next_number (kept f log) s) item) is
 
-  -- After `forget`, a put's line is the same as the line of a put after the lines on streams alone, by the actor `by'`
-  -- at the clock 0.
   line_same : (log : Journal) (s : ℕ) (item : NewItem)
-      → forget f (put_next log c by s item) ≡ put_next (kept f log) 0 by' s item
-  line_same log s item = line_by log s by' item alike
+      → forget f (put_next log c actor s item) ≡ put_next (kept f log) 0 actor' s item
+  line_same log s item = line_by log s actor' item alike
 
   line_same_twice : (log : Journal) (s : ℕ) (item : NewItem)
-      → forget f (put_next log c by s item) ≡ forget f (put_next (kept f log) 0 by' s item)
-  line_same_twice log s item = line_by log s (f by') item again
+      → forget f (put_next log c actor s item) ≡ forget f (put_next (kept f log) 0 actor' s item)
+  line_same_twice log s item = line_by log s (f actor') item again
 
-  -- If no stream has its limits on, the puts of several items add the same lines to the journal as to its lines on
-  -- streams alone, after `forget`.
   pub put_lines_same : (items : List NewItem) (log : Journal) (s : ℕ) → IsCalm log
-      → map (forget f) (put_lines log c by s items) ≡ map (forget f) (put_lines (kept f log) 0 by' s items)
+      → map (forget f) (put_lines log c actor s items) ≡ map (forget f) (put_lines (kept f log) 0 actor' s items)
   put_lines_same [] log s calm = refl
   put_lines_same (item ∷ items) log s calm =
-      let line = put_next log c by s item in
-      let line' = put_next (kept f log) 0 by' s item in
-      ap (map (forget f)) (taken log c by s item items calm)
+      let line = put_next log c actor s item in
+      let line' = put_next (kept f log) 0 actor' s item in
+      ap (map (forget f)) (taken log c actor s item items calm)
       ∙ ap (λ ls. forget f line ∷ ls) (put_lines_same items (line ∷ log) s calm)
-      ∙ ap (λ l. forget f line ∷ map (forget f) (put_lines (l ∷ kept f log) 0 by' s items)) (line_same log s item)
-      ∙ ap (λ l. l ∷ map (forget f) (put_lines (line' ∷ kept f log) 0 by' s items)) (line_same_twice log s item)
-      ∙ ap (map (forget f)) (sym (taken (kept f log) 0 by' s item items (calm_kept f log calm)))
+      ∙ ap (λ l. forget f line ∷ map (forget f) (put_lines (l ∷ kept f log) 0 actor' s items)) (line_same log s item)
+      ∙ ap (λ l. l ∷ map (forget f) (put_lines (line' ∷ kept f log) 0 actor' s items)) (line_same_twice log s item)
+      ∙ ap (map (forget f)) (sym (taken (kept f log) 0 actor' s item items (calm_kept f log calm)))
 
 same_length : (f : ℕ → ℕ) (ls ls' : List Line) → map (forget f) ls ≡ map (forget f) ls' → length ls ≡ length ls'
 same_length f ls ls' is = sym (length-map ls (forget f)) ∙ ap length is ∙ length-map ls' (forget f)
 
 -- ---- The commands that change streams
 
--- The journal whose only line has the clock 0, the actor `by` and the entry `e`.
+-- The journal whose only line has the clock 0, the actor `actor` and the entry `e`.
 abbrev line_of : ℕ → Entry → Journal
-line_of by e = plain_line 0 by e ∷ []
+line_of actor e = plain_line 0 actor e ∷ []
 
--- In this module, no stream of `log` has its limits on, and all clocks are below 24 hours. Each lemma with `AddsSame`
--- says that a command adds the same lines to `log` as to the lines on streams alone (`kept f log`). There, the command
--- comes from the actor `by'` at the clock 0.
-module _ (f : ℕ → ℕ) (log : Journal) (c by by' : ℕ) (young : IsYoung log) (calm : IsCalm log)
-    (below : c < LEAST_RETENTION) (kept_by : f by ≡ by')
-    (alike : f by ≡ f by') where
+-- With no limits on and clocks below 24 hours, each command adds the same lines to `log` and `kept f log`.
+module _ (f : ℕ → ℕ) (log : Journal) (c actor actor' : ℕ) (young : IsYoung log) (calm : IsCalm log)
+    (below : c < LEAST_RETENTION) (kept_by : f actor ≡ actor')
+    (alike : f actor ≡ f actor') where
   create_same : (name : List ℕ) (count : ℕ)
-      → AddsSame f (create log c by name count) (create (kept f log) 0 by' name count)
+      → AddsSame f (create log c actor name count) (create (kept f log) 0 actor' name count)
   create_same name count =
       if_same _ _ _ _ _ _ _ (ap is_some (named_same f log name))
       (if_same _ _ _ _ _ _ _
@@ -180,47 +158,46 @@ module _ (f : ℕ → ℕ) (log : Journal) (c by by' : ℕ) (young : IsYoung log
       (open_count_same f log))
       (if_same _ _ _ _ _ _ _ (ap (λ n. n == last_number) (made_count_same f log))
       (lines_same _ _ _ _ _
-      (ap (λ n. line_of (f by) (entry.Made (n + 1) name count)) (made_count_same f log)
+      (ap (λ n. line_of (f actor) (entry.Made (n + 1) name count)) (made_count_same f log)
       ∙ ap (λ n. line_of n (entry.Made (made_count (kept f log) + 1) name count)) alike))))
 
-  put_same : (s : ℕ) (item : NewItem) → AddsSame f (put log c by s item) (put (kept f log) 0 by' s item)
+  put_same : (s : ℕ) (item : NewItem) → AddsSame f (put log c actor s item) (put (kept f log) 0 actor' s item)
   put_same s item =
       if_same _ _ _ _ _ _ _ (not_held log c s item calm ∙ sym (not_held (kept f log) 0 s item (calm_kept f log calm)))
       (if_same _ _ _ _ _ _ _ (ap (λ n. n == last_number) (next_number_same f log s))
-      (lines_same _ _ _ _ _ (ap (λ l. l ∷ []) (line_same_twice f c by by' kept_by alike log s item))))
+      (lines_same _ _ _ _ _ (ap (λ l. l ∷ []) (line_same_twice f c actor actor' kept_by alike log s item))))
 
   put_many_same : (s : ℕ) (items : List NewItem)
-      → AddsSame f (put_many log c by s items) (put_many (kept f log) 0 by' s items)
+      → AddsSame f (put_many log c actor s items) (put_many (kept f log) 0 actor' s items)
   put_many_same s items =
-      let same = put_lines_same f c by by' kept_by alike items log s calm in
+      let same = put_lines_same f c actor actor' kept_by alike items log s calm in
       if_same _ _ _ _ _ _ _
-      (ap (λ n. nat_lt last_number (n + length (put_lines log c by s items))) (next_number_same f log s)
+      (ap (λ n. nat_lt last_number (n + length (put_lines log c actor s items))) (next_number_same f log s)
       ∙ ap (λ n. nat_lt last_number (next_number (kept f log) s + n)) (same_length f _ _ same))
       (lines_same _ _ _ _ _ same)
 
-  -- A shard is listed in `log` at the clock `c` exactly if it is listed in the lines on streams alone at the clock 0.
   listed : (s sh : ℕ) → is_listed log c s sh ≡ is_listed (kept f log) 0 s sh
   listed s sh = listed_same f log c 0 s sh young below (omega arith)
 
-  split_same : (s sh at : ℕ) → AddsSame f (split log c by s sh at) (split (kept f log) 0 by' s sh at)
-  split_same s sh at =
+  split_same : (s sh hash : ℕ) → AddsSame f (split log c actor s sh hash) (split (kept f log) 0 actor' s sh hash)
+  split_same s sh hash =
       let S = kept f log in
       let count = length_same f log s in
       let number = next_number_same f log s in
       if_same _ _ _ _ _ _ _ (ap not (listed s sh))
       (if_same _ _ _ _ _ _ _ (ap not (open_same f log s sh))
-      (if_same _ _ _ _ _ _ _ (ap (λ r. not (is_inside r at)) (range_same f log s sh))
+      (if_same _ _ _ _ _ _ _ (ap (λ r. not (is_inside r hash)) (range_same f log s sh))
       (if_same _ _ _ _ _ _ _ (ap (nat_le OPEN_SHARDS) (open_count_same f log))
       (if_same _ _ _ _ _ _ _
       (ap (λ n. nat_lt last_number (n + 1) || next_number log s == last_number) count
       ∙ ap (λ n. nat_lt last_number (length (shards S s) + 1) || n == last_number) number)
       (lines_same _ _ _ _ _
-      (ap (λ n. line_of (f by) (entry.Split s sh at n (length (shards log s)) (length (shards log s) + 1))) number
-      ∙ ap (λ n. line_of (f by) (entry.Split s sh at (next_number S s) n (n + 1))) count
-      ∙ ap (λ n. line_of n (entry.Split s sh at (next_number S s) (length (shards S s)) (length (shards S s) + 1)))
+      (ap (λ n. line_of (f actor) (entry.Split s sh hash n (length (shards log s)) (length (shards log s) + 1))) number
+      ∙ ap (λ n. line_of (f actor) (entry.Split s sh hash (next_number S s) n (n + 1))) count
+      ∙ ap (λ n. line_of n (entry.Split s sh hash (next_number S s) (length (shards S s)) (length (shards S s) + 1)))
       alike))))))
 
-  merge_same : (s sh other : ℕ) → AddsSame f (merge log c by s sh other) (merge (kept f log) 0 by' s sh other)
+  merge_same : (s sh other : ℕ) → AddsSame f (merge log c actor s sh other) (merge (kept f log) 0 actor' s sh other)
   merge_same s sh other =
       let S = kept f log in
       let count = length_same f log s in
@@ -236,12 +213,12 @@ module _ (f : ℕ → ℕ) (log : Journal) (c by by' : ℕ) (young : IsYoung log
       (if_same _ _ _ _ _ _ _
       (ap (λ n. nat_lt last_number n || next_number log s == last_number) count
       ∙ ap (λ n. nat_lt last_number (length (shards S s)) || n == last_number) number)
-      (lines_same _ _ _ _ _ (ap (λ n. line_of (f by) (entry.Merged s sh other n (length (shards log s)))) number
-      ∙ ap (λ n. line_of (f by) (entry.Merged s sh other (next_number S s) n)) count
+      (lines_same _ _ _ _ _ (ap (λ n. line_of (f actor) (entry.Merged s sh other n (length (shards log s)))) number
+      ∙ ap (λ n. line_of (f actor) (entry.Merged s sh other (next_number S s) n)) count
       ∙ ap (λ n. line_of n (entry.Merged s sh other (next_number S s) (length (shards S s)))) alike)))))
 
   keep_same : (s wanted : ℕ) (raise : Bool)
-      → AddsSame f (keep log c by s wanted raise) (keep (kept f log) 0 by' s wanted raise)
+      → AddsSame f (keep log c actor s wanted raise) (keep (kept f log) 0 actor' s wanted raise)
   keep_same s wanted raise =
       if_same _ _ _ _ _ _ _ (ap (λ n. if raise then nat_lt wanted n else nat_lt n wanted) (hours_same f log s))
       (lines_same _ _ _ _ _ (ap (λ n. line_of n (entry.Kept s wanted)) alike))
@@ -250,55 +227,51 @@ module _ (f : ℕ → ℕ) (log : Journal) (c by by' : ℕ) (young : IsYoung log
       → AddsSame f (with_stream log name d) (with_stream (kept f log) name d')
   in_stream_same name d d' so = with_same _ (stream_named log name) _ _ d d' (named_same f log name) so
 
-  -- A basic command of the stream service adds the same lines to `log` as to the lines on streams alone.
-  pub decide_same : (what : Command) → is_service what ≡ true → is_basic what ≡ true
-      → AddsSame f (decide log c by what) (decide (kept f log) 0 by' what)
+  pub decide_same : (request : Command) → is_service request ≡ true → is_basic request ≡ true
+      → AddsSame f (decide log c actor request) (decide (kept f log) 0 actor' request)
   decide_same (command.Create name count) is basic = create_same name count
   decide_same (command.Delete name) is basic =
       in_stream_same name _ _ (λ s. lines_same _ _ _ _ _ (ap (λ n. line_of n (entry.Gone s)) alike))
   decide_same (command.Put name item) is basic = in_stream_same name _ _ (λ s. put_same s item)
   decide_same (command.PutMany name items) is basic = in_stream_same name _ _ (λ s. put_many_same s items)
-  decide_same (command.Split name sh at) is basic = in_stream_same name _ _ (λ s. split_same s sh at)
+  decide_same (command.Split name sh hash) is basic = in_stream_same name _ _ (λ s. split_same s sh hash)
   decide_same (command.Merge name sh other) is basic = in_stream_same name _ _ (λ s. merge_same s sh other)
   decide_same (command.Keep name wanted raise) is basic = in_stream_same name _ _ (λ s. keep_same s wanted raise)
-  decide_same what is basic = queries_same f log (kept f log) c 0 by by' what cc
+  decide_same request is basic = queries_same f log (kept f log) c 0 actor actor' request cc
 
 -- ---- Which lines a command adds
 
--- `b` says whether the line is about a stream. The line turns no stream's limits on or off.
+-- The line is about a stream exactly if `b`, and turns no limits on or off.
 abbrev IsOf : Bool → Line → Type 0
-IsOf b l = (is_stream_entry l.what ≡ b) × ((s : ℕ) (on : Bool) → enforced_after l.what s on ≡ on)
+IsOf b l = (is_stream_entry l.what ≡ b) × ((s : ℕ) (is_on : Bool) → enforced_after l.what s is_on ≡ is_on)
 
--- `IsOf b` is true of each of the lines.
+-- `IsOf b` is true of each line.
 abbrev AreOf : Bool → List Line → Type 0
 AreOf b ls = AllByRecursion (IsOf b) ls
 
--- A line that a basic command adds is about a stream exactly if the command is for the stream service. The line turns
--- no limits on or off.
-kind : (log : Journal) (c by : ℕ) (what : Command) (line : Line) → IsAdded log c by what line → is_basic what ≡ true
-    → IsOf (is_service what) line
-kind log c by _ _ (Alone _ _ _ (Creates name count fits)) basic = (refl, λ s on. refl)
-kind log c by _ _ (Alone _ _ _ (Enforces name is s named)) basic = absurd cc
-kind log c by _ _ _ basic = (refl, λ s on. refl)
+kind : (log : Journal) (c actor : ℕ) (request : Command) (line : Line) → IsAdded log c actor request line
+    → is_basic request ≡ true
+    → IsOf (is_service request) line
+kind log c actor _ _ (Alone _ _ _ (Creates name count fits)) basic = (refl, λ s is_on. refl)
+kind log c actor _ _ (Alone _ _ _ (Enforces name is s named)) basic = absurd cc
+kind log c actor _ _ _ basic = (refl, λ s is_on. refl)
 
--- Each line that a basic command adds is about a stream if the command is for the stream service, and otherwise about a
--- lease. No line turns limits on or off.
-adds_kind : (log : Journal) (c by : ℕ) (what : Command) → is_basic what ≡ true
-    → AreOf (is_service what) (lines_of (decide log c by what))
-adds_kind log c by what basic =
-    each_line (IsOf (is_service what)) log c by what (λ line added. kind log c by what line added basic)
+adds_kind : (log : Journal) (c actor : ℕ) (request : Command) → is_basic request ≡ true
+    → AreOf (is_service request) (lines_of (decide log c actor request))
+adds_kind log c actor request basic =
+    each_line (IsOf (is_service request)) log c actor request (λ line added. kind log c actor request line added basic)
 
-service_adds : (log : Journal) (c by : ℕ) (what : Command) → is_service what ≡ true → is_basic what ≡ true
-    → AreOf true (lines_of (decide log c by what))
-service_adds log c by what is basic =
-    subst (λ b. AreOf b (lines_of (decide log c by what))) is (adds_kind log c by what basic)
+service_adds : (log : Journal) (c actor : ℕ) (request : Command) → is_service request ≡ true → is_basic request ≡ true
+    → AreOf true (lines_of (decide log c actor request))
+service_adds log c actor request is basic =
+    subst (λ b. AreOf b (lines_of (decide log c actor request))) is (adds_kind log c actor request basic)
 
-lease_adds : (log : Journal) (c by : ℕ) (what : Command) → is_service what ≡ false
-    → AreOf false (lines_of (decide log c by what))
-lease_adds log c by what is =
-    subst (λ b. AreOf b (lines_of (decide log c by what))) is (adds_kind log c by what (lease_basic what is))
+lease_adds : (log : Journal) (c actor : ℕ) (request : Command) → is_service request ≡ false
+    → AreOf false (lines_of (decide log c actor request))
+lease_adds log c actor request is =
+    subst (λ b. AreOf b (lines_of (decide log c actor request))) is
+    (adds_kind log c actor request (lease_basic request is))
 
--- If lines about streams are added to a journal, the same lines, after `forget`, are added to its lines on streams.
 adds_lines : (f : ℕ → ℕ) (ls : List Line) (log : Journal) → AreOf true ls
     → kept f (with_lines ls log) ≡ with_lines (map (forget f) ls) (kept f log)
 adds_lines f [] log are = refl
@@ -307,14 +280,12 @@ adds_lines f (line ∷ ls) log are =
     adds_lines f ls (line ∷ log) are.1
     ∙ ap (λ b. with_lines (map (forget f) ls) (map (forget f) (cond b (line ∷ rest) rest))) are.0.0
 
--- If lines about leases are added to a journal, the journal's lines on streams stay the same.
 adds_none : (f : ℕ → ℕ) (ls : List Line) (log : Journal) → AreOf false ls → kept f (with_lines ls log) ≡ kept f log
 adds_none f [] log are = refl
 adds_none f (line ∷ ls) log are =
     let rest = filter (λ l. is_stream_entry l.what) log in
     adds_none f ls (line ∷ log) are.1 ∙ ap (λ b. map (forget f) (cond b (line ∷ rest) rest)) are.0.0
 
--- If no stream has its limits on, this is still so after lines that turn no limits on or off.
 calm_lines : (b : Bool) (ls : List Line) (log : Journal) → AreOf b ls → IsCalm log → IsCalm (with_lines ls log)
 calm_lines b [] log are calm = calm
 calm_lines b (line ∷ ls) log are calm = calm_lines b ls (line ∷ log) are.1 (λ s. are.0.1 s (is_enforced log s) ∙ calm s)
@@ -326,22 +297,19 @@ pub record Asked : Type 0 where
   pub by : ℕ
   pub what : Command
 
--- The commands for the stream service in the history `h`, each with the value of `f` for the actor who sent it.
+-- The commands for the stream service in `h`, each with the value of `f` for its actor.
 abbrev pub asked : (ℕ → ℕ) → List Turn → List Asked
 asked f h = map (λ turn. record { by = f turn.by; what = turn.what }) (service_turns h)
 
--- The lines that the commands leave after `forget`, if each command is decided at the clock 0 after the lines of the
--- commands before it.
+-- The lines of the commands after `forget`, each decided at the clock 0 after the earlier lines.
 abbrev left_by : (ℕ → ℕ) → List Asked → Journal
 left_by f [] = []
 left_by f (a ∷ more) = with_lines (map (forget f) (lines_of (decide (left_by f more) 0 a.by a.what))) (left_by f more)
 
--- A law that the lemmas take as given: the journal of each history is legal, and the history's clock isn't below that
--- of the journal's newest line.
+-- The law, taken as given, that a history's journal is legal and not later than the history's clock.
 abbrev pub Reaches : Type 0
 Reaches = (h : List Turn) → IsHistory h → IsReached (journal h) (clock h)
 
--- If no stream has its limits on, this is still so after a turn with a basic command.
 calm_turn : (turn : Turn) (h : List Turn) → is_basic turn.what ≡ true → IsCalm (journal h) → IsCalm (journal (turn ∷ h))
 calm_turn turn h basic calm = either (is_service turn.what) refl
   where
@@ -353,21 +321,17 @@ calm_turn turn h basic calm = either (is_service turn.what) refl
         calm_lines false (lines_of (decision (journal h) (clock (turn ∷ h)) turn)) (journal h)
         (lease_adds (journal h) (clock (turn ∷ h)) turn.by turn.what is) calm
 
--- After a history with basic commands alone, no stream has its limits on.
 calm_history : (h : List Turn) → AreBasic h → IsCalm (journal h)
 calm_history [] basic = λ s. refl
 calm_history (turn ∷ h) basic = calm_turn turn h basic.0 (calm_history h basic.1)
 
--- In this module, applying `f` twice gives the same as applying it once.
+-- Applying `f` twice gives the same as applying it once.
 module _ (reaches : Reaches) (f : ℕ → ℕ) (once : (n : ℕ) → f n ≡ f (f n)) where
-  -- If the clock of a history is below 24 hours, each line of its journal is young (`IsYoung`).
   young : (h : List Turn) → IsHistory h → clock h < LEAST_RETENTION → IsYoung (journal h)
   young h lawful below =
       let reached = reaches h lawful in
       young_if_legal (journal h) reached.legal (omega (arith, reached.order, below))
 
-  -- A turn for the stream service adds to the lines on streams what its command would add to these lines alone. There,
-  -- the command comes from the actor `f turn.by` at the clock 0.
   service_turn : (turn : Turn) (h : List Turn) → IsHistory h → AreBasic (turn ∷ h) → clock (turn ∷ h) < LEAST_RETENTION
       → is_service turn.what ≡ true
       → kept f (journal (turn ∷ h))
@@ -382,15 +346,12 @@ module _ (reaches : Reaches) (f : ℕ → ℕ) (once : (n : ℕ) → f n ≡ f (
       (calm_history h basic.1) below refl
       (once turn.by) turn.what is basic.0)
 
-  -- A turn on leases adds no line on streams.
   lease_turn : (turn : Turn) (h : List Turn) → is_service turn.what ≡ false
       → kept f (journal (turn ∷ h)) ≡ kept f (journal h)
   lease_turn turn h is =
       adds_none f (lines_of (decision (journal h) (clock (turn ∷ h)) turn)) (journal h)
       (lease_adds (journal h) (clock (turn ∷ h)) turn.by turn.what is)
 
-  -- Let a history have only basic commands, and let its clock be below 24 hours. Then the lines on streams in its
-  -- journal are those that its commands for the stream service leave (`left_by`).
   pub left : (h : List Turn) → IsHistory h → AreBasic h → clock h < LEAST_RETENTION
       → kept f (journal h) ≡ left_by f (asked f h)
   left [] lawful basic below = refl
@@ -406,8 +367,7 @@ module _ (reaches : Reaches) (f : ℕ → ℕ) (once : (n : ℕ) → f n ≡ f (
           ∙ ap (λ S. with_lines (map (forget f) (lines_of (decide S 0 (f turn.by) turn.what))) S) so
       either false is so = lease_turn turn h is ∙ so
 
-  -- If two histories with basic commands and with clocks below 24 hours have the same commands for the stream service
-  -- (`asked`), they leave the same lines on streams.
+  -- Two histories with the same commands for the stream service (`asked`) leave the same lines on streams.
   pub same_left : (h h' : List Turn) → IsHistory h → IsHistory h' → AreBasic h → AreBasic h' → clock h < LEAST_RETENTION
       → clock h' < LEAST_RETENTION
       → asked f h ≡ asked f h' → kept f (journal h) ≡ kept f (journal h')
@@ -416,15 +376,12 @@ module _ (reaches : Reaches) (f : ℕ → ℕ) (once : (n : ℕ) → f n ≡ f (
 
 -- ---- The turns of the stream service alone
 
--- If all turns of a history are lawful, so are its turns for the stream service.
 pub lawful_service : (h : List Turn) → IsHistory h → IsHistory (service_turns h)
 lawful_service h lawful = all_filter IsLawful (λ turn. is_service turn.what) h lawful
 
--- If all turns of a history have basic commands, so have its turns for the stream service.
 pub basic_service : (h : List Turn) → AreBasic h → AreBasic (service_turns h)
 basic_service h basic = all_filter (λ turn. is_basic turn.what ≡ true) (λ turn. is_service turn.what) h basic
 
--- The clock of a history's turns for the stream service isn't above the clock of all its turns.
 not_later : (h : List Turn) → clock (service_turns h) ≤ clock h
 not_later [] = omega arith
 not_later (turn ∷ h) =
@@ -432,7 +389,6 @@ not_later (turn ∷ h) =
     cond_both (is_service turn.what) (turn ∷ service_turns h) (service_turns h) (λ ts. clock ts ≤ max (clock h) turn.at)
     (λ asks. omega arith) (λ other. omega arith)
 
--- Choosing the turns of the stream service twice gives the same as once.
 pub services_twice : (h : List Turn) → service_turns h ≡ service_turns (service_turns h)
 services_twice [] = refl
 services_twice (turn ∷ h) = either (is_service turn.what) refl (services_twice h)
@@ -444,8 +400,7 @@ services_twice (turn ∷ h) = either (is_service turn.what) refl (services_twice
         ∙ ap (λ b. cond b (turn ∷ service_turns (service_turns h)) (service_turns (service_turns h))) (sym is)
     either false is so = so
 
--- Let a history have only basic commands, and let its clock be below 24 hours. Then its journal has the same lines on
--- streams as the journal of its turns for the stream service alone.
+-- Below 24 hours, turns on leases don't change the lines on streams.
 pub alone : Reaches → (h : List Turn) → IsHistory h → AreBasic h → clock h < LEAST_RETENTION
     → stream_lines (journal h) ≡ stream_lines (journal (service_turns h))
 alone reaches h lawful basic below =

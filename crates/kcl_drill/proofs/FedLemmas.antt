@@ -1,5 +1,4 @@
--- In the history of a drill (`IsFed`), the commands for the stream service are those of its generator, in order. The
--- root made the first one, and the feeder the others.
+-- In a drill's history (`IsFed`), the stream service's commands are the generator's, in order.
 use Rattle.std.proofs.Common.{◌≡◌, ℕ, suc, ◌+◌, Bool, true, false, List, [], ◌∷◌, ◌++◌, length, refl, sym, ap, subst}
 use Rattle.std.proofs.Common.{◌∙◌, arith}
 use Rattle.std.specs.Prelude.{◌==◌, cond, reverse}
@@ -19,14 +18,11 @@ use Rattle.kcl_drill.proofs.Inner.{IsInner, all_reverse, generated_inner}
 
 -- ---- Filtered lists
 
--- If a list that contains `x` has just one element, nothing stands before or after `x`.
 none_around : (xs : List Turn) (x : Turn) (ys : List Turn) → length (xs ++ x ∷ ys) ≡ 1 → (xs ≡ []) × (ys ≡ [])
 none_around xs x ys is =
     let n : length (xs ++ x ∷ ys) ≡ length xs + suc (length ys) = length-append xs (x ∷ ys) in
     (nil_from_length xs (omega arith), nil_from_length ys (omega arith))
 
--- If no element of the list `x ∷ xs` passes the test `p`, then `x` doesn't, and no element of `xs` does. `b` says
--- whether `x` passes `p`.
 none_by : (b : Bool) (p : Turn → Bool) (x : Turn) (xs : List Turn) → p x ≡ b
     → cond b (x ∷ filter p xs) (filter p xs) ≡ [] → (p x ≡ false) × (filter p xs ≡ [])
 none_by true p x xs is none = absurd cc
@@ -38,18 +34,14 @@ none_by false p x xs is none = (is, none)
 abbrev OnLeases : ℕ → ℕ → Turn → Type 0
 OnLeases root feeder turn = (turn.by == root) ≡ false → (turn.by == feeder) ≡ false → is_service turn.what ≡ false
 
--- What is true of each element of two lists together is true of each element of the first.
 all_left : (P : Turn → Type 0) (xs ys : List Turn) → AllByRecursion P (xs ++ ys) → AllByRecursion P xs
 all_left P [] ys are = tt
 all_left P (x ∷ xs) ys are = (are.0, all_left P xs ys are.1)
 
--- What is true of each element of two lists together is true of each element of the second.
 all_right : (P : Turn → Type 0) (xs ys : List Turn) → AllByRecursion P (xs ++ ys) → AllByRecursion P ys
 all_right P [] ys are = are
 all_right P (x ∷ xs) ys are = all_right P xs ys are.1
 
--- Suppose that none of the turns is the root's, that the feeder's turns are for the stream service, and that the turns
--- of all others are on leases. Then the turns for the stream service are the feeder's.
 fed_alone : (root feeder : ℕ) (ts : List Turn) → turns_by root ts ≡ [] → AllByRecursion (OnLeases root feeder) ts
     → AllByRecursion (λ turn. is_service turn.what ≡ true) (turns_by feeder ts) → service_turns ts ≡ turns_by feeder ts
 fed_alone root feeder [] none others are = refl
@@ -69,31 +61,26 @@ fed_alone root feeder (turn ∷ ts) none others are =
 
 -- ---- The generator's commands are for the stream service
 
--- A put, a split or a merge is for the stream service.
-inner_service : (what : Command) → IsInner what → is_service what ≡ true
+inner_service : (asked : Command) → IsInner asked → is_service asked ≡ true
 inner_service (command.Put name item) is = refl
-inner_service (command.Split name sh at) is = refl
+inner_service (command.Split name sh hash) is = refl
 inner_service (command.Merge name sh other) is = refl
 inner_service _ is = absurd is
 
--- If the commands of turns are puts, splits and merges, then the turns are for the stream service.
 services_of : (ts : List Turn) (commands : List Command) → commands_in ts ≡ commands → AllByRecursion IsInner commands
     → AllByRecursion (λ turn. is_service turn.what ≡ true) ts
-services_of ts commands is are = by ts (subst (AllByRecursion IsInner) (sym is) are)
+services_of ts commands is are = cases ts (subst (AllByRecursion IsInner) (sym is) are)
   where
-    by : (ts : List Turn) → AllByRecursion IsInner (commands_in ts)
+    cases : (ts : List Turn) → AllByRecursion IsInner (commands_in ts)
         → AllByRecursion (λ turn. is_service turn.what ≡ true) ts
-    by [] are = tt
-    by (turn ∷ ts) are = (inner_service turn.what are.0, by ts are.1)
+    cases [] are = tt
+    cases (turn ∷ ts) are = (inner_service turn.what are.0, cases ts are.1)
 
 -- ---- The order of the commands
 
--- If two lists of one command are equal, the commands are.
 same_head : (a b : Command) → a ∷ [] ≡ b ∷ [] → a ≡ b
 same_head a b is = cc (is)
 
--- The lemma `in_order`, where the history consists of the turns `newer`, the root's turn `first` before them, and the
--- turns `older` before this turn.
 ordered : (number records root feeder : ℕ) (newer older : List Turn) (first : Turn) → first.by ≡ root
     → commands_in (turns_by root (newer ++ first ∷ older)) ≡ command.Create drill_name FIRST_SHARDS ∷ []
     → commands_in (turns_by feeder (newer ++ first ∷ older)) ≡ reverse (from_record 0 records number first_open)
@@ -110,7 +97,7 @@ ordered number records root feeder newer older first of_root made fed after apar
     ap length (sym cut) ∙ sym (length-map (turns_by root (newer ++ first ∷ older)) (λ turn. turn.what))
     ∙ ap length made in
     let around = none_around (turns_by root newer) first (turns_by root older) one in
-    let what : first.what ∷ [] ≡ command.Create drill_name FIRST_SHARDS ∷ [] =
+    let is_what : first.what ∷ [] ≡ command.Create drill_name FIRST_SHARDS ∷ [] =
     ap (λ xs. commands_in (xs ++ first ∷ [])) (sym around.0)
     ∙ ap (λ ys. commands_in (turns_by root newer ++ first ∷ ys)) (sym around.1)
     ∙ ap commands_in (sym cut) ∙ made in
@@ -128,18 +115,16 @@ ordered number records root feeder newer older first of_root made fed after apar
     fed_alone root feeder older around.1 (all_right (OnLeases root feeder) newer (first ∷ older) others).1
     (subst (AllByRecursion (λ turn. is_service turn.what ≡ true)) (sym after) tt) ∙ after in
     let first_service : is_service first.what ≡ true =
-    ap is_service (same_head first.what (command.Create drill_name FIRST_SHARDS) what) in
+    ap is_service (same_head first.what (command.Create drill_name FIRST_SHARDS) is_what) in
     ap commands_in (filter-append (λ t. is_service t.what) newer (first ∷ older)
     ∙ ap (λ b. service_turns newer ++ cond b (first ∷ service_turns older) (service_turns older)) first_service
     ∙ ap (λ ys. service_turns newer ++ first ∷ ys) old
     ∙ ap (λ xs. xs ++ first ∷ []) new)
     ∙ map-append (λ turn. turn.what) (turns_by feeder newer) (first ∷ [])
     ∙ ap (λ xs. xs ++ first.what ∷ []) commands
-    ∙ ap (λ xs. reverse (from_record 0 records number first_open) ++ xs) what
+    ∙ ap (λ xs. reverse (from_record 0 records number first_open) ++ xs) is_what
     ∙ sym (reverse-append (command.Create drill_name FIRST_SHARDS ∷ []) (from_record 0 records number first_open))
 
--- In the history of a drill (`IsFed`), the commands for the stream service are those of the generator, in order. A
--- history has its newest turn first, so these commands stand in reverse.
 pub in_order : (number records root feeder : ℕ) (h : List Turn) → (root == feeder) ≡ false
     → IsFed number records root feeder h → commands_in (service_turns h) ≡ reverse (generated number records)
 in_order number records root feeder h apart is =

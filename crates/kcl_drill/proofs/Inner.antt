@@ -1,5 +1,4 @@
--- After CreateStream, the commands of a generator are puts, splits and merges. So all its commands are basic: none
--- scales a stream or switches limits on or off.
+-- After CreateStream, a generator's commands are puts, splits and merges, so all its commands are basic.
 use Rattle.std.proofs.Common.{◌≡◌, ℕ, zero, suc, ◌+◌, Bool, true, false, List, [], ◌∷◌, Option, Some, None, refl, sym}
 use Rattle.std.proofs.Common.{subst}
 use Rattle.std.specs.Prelude.{map, cond, reverse}
@@ -20,19 +19,16 @@ use Rattle.kcl_drill.specs.Generated.{with_plan}
 -- The command is a put of one record, a split or a merge.
 abbrev pub IsInner : Command → Type 0
 IsInner (command.Put name item) = Unit {0}
-IsInner (command.Split name sh at) = Unit {0}
+IsInner (command.Split name sh hash) = Unit {0}
 IsInner (command.Merge name sh other) = Unit {0}
 IsInner _ = ⊥
 
--- If the commands `more` are puts, splits and merges, so are these commands with the command of a plan, if there is
--- one, in front.
 plan_inner : (o : Option Plan) (more : List Command) → AllByRecursion IsInner more
     → AllByRecursion IsInner (with_plan o more)
 plan_inner None more are = are
 plan_inner (Some (Split x)) more are = (tt, are)
 plan_inner (Some (Merge x y)) more are = (tt, are)
 
--- The commands of a generator after CreateStream are puts, splits and merges.
 pub generated_inner : (i left x : ℕ) (opens : Opens) → AllByRecursion IsInner (from_record i left x opens)
 generated_inner i zero x opens = tt
 generated_inner i (suc left) x opens = (
@@ -41,7 +37,6 @@ generated_inner i (suc left) x opens = (
       (generated_inner (i + 1) left (draw x) (opens_then opens (plan (i + 1) (draw x) opens))),
 )
 
--- If the commands of a list are puts, splits and merges, those of the reversed list are.
 pub all_reverse : (xs : List Command) → AllByRecursion IsInner xs → AllByRecursion IsInner (reverse xs)
 all_reverse [] are = tt
 all_reverse (x ∷ xs) are =
@@ -50,38 +45,33 @@ all_reverse (x ∷ xs) are =
 
 -- ---- A history whose commands for the stream service are a generator's
 
--- A put, a split or a merge is basic.
-inner_basic : (what : Command) → IsInner what → is_basic what ≡ true
+inner_basic : (asked : Command) → IsInner asked → is_basic asked ≡ true
 inner_basic (command.Put name item) is = refl
-inner_basic (command.Split name sh at) is = refl
+inner_basic (command.Split name sh hash) is = refl
 inner_basic (command.Merge name sh other) is = refl
 inner_basic _ is = absurd is
 
 -- Each of the commands is basic.
 abbrev AreBasicCommands : List Command → Type 0
-AreBasicCommands cs = AllByRecursion (λ what. is_basic what ≡ true) cs
+AreBasicCommands cs = AllByRecursion (λ asked. is_basic asked ≡ true) cs
 
--- All commands of a generator are basic.
 generated_basic : (number records : ℕ) → AreBasicCommands (reverse (generated number records))
 generated_basic number records =
     let rest = from_record 0 records number first_open in
     subst AreBasicCommands (sym (reverse-append (command.Create drill_name FIRST_SHARDS ∷ []) rest))
-    (all_append (λ what. is_basic what ≡ true) (reverse rest) (command.Create drill_name FIRST_SHARDS ∷ [])
-    (all_weaker IsInner (λ what. is_basic what ≡ true) inner_basic (reverse rest)
+    (all_append (λ asked. is_basic asked ≡ true) (reverse rest) (command.Create drill_name FIRST_SHARDS ∷ [])
+    (all_weaker IsInner (λ asked. is_basic asked ≡ true) inner_basic (reverse rest)
     (all_reverse rest (generated_inner 0 records number first_open)))
     (refl, tt))
 
--- Turns with basic commands are basic.
 turns_basic : (ts : List Turn) → AreBasicCommands (map (λ turn. turn.what) ts) → AreBasic ts
 turns_basic [] are = tt
 turns_basic (turn ∷ ts) are = (are.0, turns_basic ts are.1)
 
--- A command on leases is basic.
-pub lease_basic : (what : Command) → is_service what ≡ false → is_basic what ≡ true
+pub lease_basic : (asked : Command) → is_service asked ≡ false → is_basic asked ≡ true
 lease_basic (command.Scale name target) is = cc
 lease_basic _ is = cc
 
--- If the turns for the stream service are basic, so are all turns of the history.
 all_basic : (h : List Turn) → AreBasic (service_turns h) → AreBasic h
 all_basic [] are = tt
 all_basic (turn ∷ h) are = either (is_service turn.what) refl are (all_basic h)
@@ -92,7 +82,6 @@ all_basic (turn ∷ h) are = either (is_service turn.what) refl are (all_basic h
     either true is are rest = (are.0, rest are.1)
     either false is are rest = (lease_basic turn.what is, rest are)
 
--- If the commands for the stream service in a history are those of a generator, all turns of the history are basic.
 pub basic_if_generated : (h : List Turn) (number records : ℕ)
     → map (λ turn. turn.what) (service_turns h) ≡ reverse (generated number records) → AreBasic h
 basic_if_generated h number records is =

@@ -7,16 +7,13 @@ use Rattle.std.proofs.lemmas.Str.{IsUtf8-from_ascii, chars-IsAscii}
 use Rattle.kds_defs.specs.Lawful.{IsPartitionKey, IsItem}
 use Rattle.kcl_drill.specs.Generated.{key_of, record_of}
 
--- The partition key that is made for a number below 2^64 consists of ASCII characters.
 ascii_key : (x : ℕ) → x < 2 ^ 64 → IsAscii (key_of x)
 ascii_key x fits zero = omega arith
 ascii_key x fits (suc i) = IsAscii-decimal x fits i
 
--- The partition key that is made for a number below 2^64 has at most 21 characters.
 short_key : (x : ℕ) → x < 2 ^ 64 → length (key_of x) ≤ 21
 short_key x fits = let d = length-decimal-le 20 x (omega arith) (omega arith) fits in omega arith
 
--- The partition key that is made for a number below 2^64 is one that the API allows.
 key_lawful : (x : ℕ) → x < 2 ^ 64 → IsPartitionKey (key_of x)
 key_lawful x fits =
     let same : length (chars (key_of x)) ≡ length (key_of x) =
@@ -27,8 +24,7 @@ key_lawful x fits =
       few = let short = short_key x fits in omega arith;
     }
 
--- If a number below 2^64 was drawn for the i-th record, and the record's hash key is below 2^128, the record is one
--- that the API allows.
+-- The API allows the record if `x` is below 2^64 and the hash key below 2^128.
 pub record_lawful : (i x : ℕ) → x < 2 ^ 64 → (record_of i x).hash < 2 ^ 128 → IsItem (record_of i x)
 record_lawful i x fits hash =
     record {

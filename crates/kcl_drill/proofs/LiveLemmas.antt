@@ -27,82 +27,76 @@ use Rattle.kcl_drill.proofs.SummedLemmas.{nobody, asked_alone}
 
 -- ---- Commands that neither make nor delete a stream
 
--- Whether the entry is a put, a split or a merge, which neither makes nor deletes a stream.
+-- Whether the entry is a put, a split or a merge.
 abbrev is_inner : Entry → Bool
 is_inner (entry.Put stream shard seq hash bytes key_bytes) = true
-is_inner (entry.Split stream shard at seq low high) = true
+is_inner (entry.Split stream shard key_hash seq low high) = true
 is_inner (entry.Merged stream shard other seq child) = true
 is_inner _ = false
 
--- Each of the lines has the entry of a put, a split or a merge.
+-- Each line has the entry of a put, a split or a merge.
 abbrev AreInner : List Line → Type 0
 AreInner ls = AllByRecursion (λ l. is_inner l.what ≡ true) ls
 
--- A line that the command for a put, a split or a merge adds has the entry of a put, a split or a merge.
-inner_line : (log : Journal) (c by : ℕ) (what : Command) (line : Line) → IsAdded log c by what line → IsInner what
+inner_line : (log : Journal) (c actor : ℕ) (asked : Command) (line : Line) → IsAdded log c actor asked line
+    → IsInner asked
     → is_inner line.what ≡ true
-inner_line log c by _ _ (Alone _ _ _ (Puts name item s named fits)) is = refl
-inner_line log c by _ _ (Alone _ _ _ (Splits name sh at s named listed fits)) is = refl
-inner_line log c by _ _ (Alone _ _ _ (Merges name sh other s named listed fits)) is = refl
-inner_line log c by _ _ _ is = absurd is
+inner_line log c actor _ _ (Alone _ _ _ (Puts name item s named fits)) is = refl
+inner_line log c actor _ _ (Alone _ _ _ (Splits name sh hash s named listed fits)) is = refl
+inner_line log c actor _ _ (Alone _ _ _ (Merges name sh other s named listed fits)) is = refl
+inner_line log c actor _ _ _ is = absurd is
 
--- All lines that the command for a put, a split or a merge adds have entries of puts, splits and merges.
-adds_inner : (log : Journal) (c by : ℕ) (what : Command) → IsInner what → AreInner (lines_of (decide log c by what))
-adds_inner log c by what is =
-    each_line (λ l. is_inner l.what ≡ true) log c by what (λ line added. inner_line log c by what line added is)
+adds_inner : (log : Journal) (c actor : ℕ) (asked : Command) → IsInner asked
+    → AreInner (lines_of (decide log c actor asked))
+adds_inner log c actor asked is =
+    each_line (λ l. is_inner l.what ≡ true) log c actor asked (λ line added. inner_line log c actor asked line added is)
 
 -- ---- The drill's stream stays
 
--- In the journal, just one stream was made. This stream has the number 1 and the drill's name, and is live.
+-- Just one stream was made; it has the drill's name, and is live.
 record HasDrill (log : Journal) : Type 0 where
   pub made : made_count log ≡ 1
   pub live : is_live log 1 ≡ true
   pub named : name_of log 1 ≡ drill_name
 
--- A line with the entry of a put, a split or a merge keeps the three parts of `HasDrill`.
 stays_by : (line : Line) (log : Journal) (e : Entry) → line.what ≡ e → is_inner e ≡ true → HasDrill log
     → (made_count_after e (made_count log) ≡ 1) × (is_live_after e 1 (is_live log 1) ≡ true)
     × (name_of_after e 1 (name_of log 1) ≡ drill_name)
 stays_by line log (entry.Put stream shard seq hash bytes key_bytes) is are has = (has.made, has.live, has.named)
-stays_by line log (entry.Split stream shard at seq low high) is are has = (has.made, has.live, has.named)
+stays_by line log (entry.Split stream shard key_hash seq low high) is are has = (has.made, has.live, has.named)
 stays_by line log (entry.Merged stream shard other seq child) is are has = (has.made, has.live, has.named)
 stays_by line log _ is are has = absurd cc
 
--- Lines of puts, splits and merges keep `HasDrill`.
 stays : (ls : List Line) (log : Journal) → AreInner ls → HasDrill log → HasDrill (with_lines ls log)
 stays [] log are has = has
 stays (line ∷ ls) log are has =
     let s = stays_by line log line.what refl are.0 has in
     stays ls (line ∷ log) are.1 (record { made = s.0; live = s.1; named = s.2 })
 
--- `HasDrill` holds after CreateStream.
 first_drill : HasDrill (journal (turns_of (command.Create drill_name FIRST_SHARDS ∷ [])))
 unfolding refuse◌if◌else◌ with◌or◌then◌
 first_drill = record { made = refl; live = refl; named = refl }
 
 -- The command as a turn of the actor 0 at the moment 0.
 abbrev nobodys : Command → Turn
-nobodys what = record { by = 0; at = 0; what = what }
+nobodys asked = record { by = 0; at = 0; what = asked }
 
--- `HasDrill` holds after CreateStream and then any puts, splits and merges.
 all_stay : (commands : List Command) → AllByRecursion IsInner commands
     → HasDrill (journal (map nobodys (commands ++ command.Create drill_name FIRST_SHARDS ∷ [])))
 all_stay [] are = first_drill
-all_stay (what ∷ commands) are =
+all_stay (asked ∷ commands) are =
     let ts = map nobodys (commands ++ command.Create drill_name FIRST_SHARDS ∷ []) in
-    stays (lines_of (decide (journal ts) _ 0 what)) (journal ts) (adds_inner (journal ts) _ 0 what are.0)
+    stays (lines_of (decide (journal ts) _ 0 asked)) (journal ts) (adds_inner (journal ts) _ 0 asked are.0)
     (all_stay commands are.1)
 
 -- ---- After all commands of the generator
 
--- If `HasDrill` holds, the live stream with the drill's name is the stream 1.
 named_in : (log : Journal) → HasDrill log → stream_named log drill_name ≡ Some 1
 named_in log has = ap (λ n. find (λ s. same_name (name_of log s) drill_name) (filter (is_live log) (numbers_from 1 n)))
     has.made
     ∙ ap (λ b. find (λ s. same_name (name_of log s) drill_name) (cond b (1 ∷ []) [])) has.live
     ∙ ap (λ name. cond (same_name name drill_name) (Some 1) None) has.named
 
--- After the generator's commands alone, the live stream with the drill's name is the stream 1.
 pub drill_named : (number records : ℕ) → stream_named (journal (turns_of (generated number records))) drill_name
     ≡ Some 1
 drill_named number records =
@@ -112,8 +106,7 @@ drill_named number records =
     (sym (reverse-append (command.Create drill_name FIRST_SHARDS ∷ []) rest))
     (all_stay (reverse rest) (all_reverse rest (generated_inner 0 records number first_open))))
 
--- Suppose that the commands for the stream service in a history are a generator's and that the clock is below 24 hours.
--- Then the live stream with the drill's name is the stream 1 after this history.
+-- After a generator's commands, below 24 hours, the drill's name means the stream 1, whoever sent them.
 pub live_alone : Reaches → (h : List Turn) (number count : ℕ) → IsHistory h → clock h < LEAST_RETENTION
     → map (λ turn. turn.what) (service_turns h) ≡ reverse (generated number count)
     → stream_named (journal h) drill_name ≡ Some 1

@@ -1,5 +1,4 @@
--- What a journal says of its streams depends only on its lines on streams, and not on their clocks, as long as nothing
--- is trimmed. An actor counts only by the value of a function `f` for it.
+-- Untrimmed, what a journal says of streams follows from its stream lines without clocks.
 use Rattle.std.proofs.Common.{◌≡◌, ◌≢◌, ℕ, ◌+◌, ◌<◌, ◌≤◌, max, Bool, true, false, List, [], ◌∷◌, length, Option, Some}
 use Rattle.std.proofs.Common.{None, refl, sym, ap, ◌∙◌, arith}
 use Rattle.std.specs.Prelude.{◌==◌, ◌*◌, ◌||◌, not, map, cond, slice_get, if◌then◌else◌}
@@ -30,25 +29,22 @@ use Rattle.kcl_drill.proofs.Undated.{split_undated, merged_undated, chosen}
 use Rattle.kcl_drill.proofs.Undated.{open_undated, opens_undated, home_undated, listed_at, listed_undated}
 use Rattle.kcl_drill.specs.Apart.{LEAST_RETENTION, is_stream_entry}
 
--- The line with the clock 0, and with the value of `f` for its actor in place of the actor.
+-- The line at the clock 0, with the value of `f` for its actor.
 abbrev pub forget : (ℕ → ℕ) → Line → Line
 forget f line = record line { clock = 0; by = f line.by }
 
--- The lines of the journal that are about streams, each with the clock 0 and with the value of `f` for its actor.
+-- The lines about streams, each at the clock 0 and with the value of `f` for its actor.
 abbrev pub kept : (ℕ → ℕ) → Journal → Journal
 kept f log = map (forget f) (filter (λ line. is_stream_entry line.what) log)
 
 -- ---- A reading that follows the journal line by line
 
--- In this module, `step` computes the reading `R` of a journal line by line, and lines that aren't about streams don't
--- change it. `φ` sets the clocks in a value of `R` to 0.
+-- `step` computes the reading `R` line by line, unchanged by other lines; `φ` sets the clocks in a value to 0.
 module _ {A : Type 0} (f : ℕ → ℕ) (R : Journal → A) (step : Line → A → A) (φ : A → A)
     (along : (line : Line) (log : Journal) → R (line ∷ log) ≡ step line (R log))
     (first : φ (R []) ≡ R [])
     (others : (line : Line) (a : A) → is_stream_entry line.what ≡ false → step line a ≡ a)
     (undates : (line : Line) (a : A) → φ (step line a) ≡ step (forget f line) (φ a)) where
-  -- If the reading of `log`, with its clocks set to 0, is the reading of the lines `rest` after `forget`, this is still
-  -- so after one more line. The line is added to `rest` if it is about a stream (`b`).
   read_step : (line : Line) (log rest : Journal) (b : Bool) → is_stream_entry line.what ≡ b
       → φ (R log) ≡ R (map (forget f) rest)
       → φ (R (line ∷ log)) ≡ R (map (forget f) (cond b (line ∷ rest) rest))
@@ -57,7 +53,7 @@ module _ {A : Type 0} (f : ℕ → ℕ) (R : Journal → A) (step : Line → A �
       ∙ sym (along (forget f line) (map (forget f) rest))
   read_step line log rest false is so = ap φ (along line log ∙ others line (R log) is) ∙ so
 
-  -- The reading of a journal, with its clocks set to 0, is the reading of its lines on streams alone.
+  -- The reading, with its clocks set to 0, follows from the lines on streams alone.
   pub reads_same : (log : Journal) → φ (R log) ≡ R (kept f log)
   reads_same [] = first
   reads_same (line ∷ log) =
@@ -67,32 +63,26 @@ module _ {A : Type 0} (f : ℕ → ℕ) (R : Journal → A) (step : Line → A �
 abbrev same : {A : Type 0} → A → A
 same a = a
 
--- An entry that isn't about a stream isn't of any stream `s`.
 pub no_stream : (e : Entry) (s : ℕ) → is_stream_entry e ≡ false → stream_of e ≢ Some s
 no_stream e s is = of_no_stream e s (of_none (stream_of e) is)
 
--- The next sequence number and the shards of a stream, which have to be computed together.
+-- The next sequence number and the shards of a stream, computed together.
 record Grown : Type 0 where
   pub next : ℕ
   pub all : List ShardState
 
--- The next sequence number and the shards of the stream `s` in the journal.
 grown : Journal → ℕ → Grown
 grown log s = record { next = next_number log s; all = shards log s }
 
--- The next sequence number and the shards of the stream `s` after the line `line`, as they follow from those before the
--- line.
 grow : ℕ → Line → Grown → Grown
 grow s line g = record {
   next = draws line.what s + g.next;
   all = shards_after line line.what s (draws line.what s + g.next) g.all;
 }
 
--- The next sequence number and the shards, with the clocks in the shards set to 0.
 undated_grown : Grown → Grown
 undated_grown g = record g { all = undated_all g.all }
 
--- A line that isn't about a stream changes neither the next sequence number nor the shards.
 grow_other : (s : ℕ) (line : Line) (g : Grown) → is_stream_entry line.what ≡ false → grow s line g ≡ g
 unfolding grow
 grow_other s line g is =
@@ -101,18 +91,16 @@ grow_other s line g is =
     ap (λ n. record { next = n; all = shards_after line line.what s n g.all }) n
     ∙ ap (λ xs. record { next = g.next; all = xs }) (elsewhere.shards_same line line.what s g.next g.all none)
 
--- Each line of the journal has a clock below 24 hours and an entry whose numbers are in their ranges (`IsInRange`).
+-- Each line's clock is below 24 hours, and its entry's numbers are in their ranges (`IsInRange`).
 abbrev pub IsYoung : Journal → Type 0
 IsYoung [] = Unit {0}
 IsYoung (line ∷ log) = (line.clock < LEAST_RETENTION) × IsInRange line.what × IsYoung log
 
--- If a journal is legal and its newest line's clock is below 24 hours, all its lines are young (`IsYoung`).
 pub young_if_legal : (log : Journal) → IsLegal log → last_clock log < LEAST_RETENTION → IsYoung log
 young_if_legal [] legal below = tt
 young_if_legal (line ∷ log) legal below =
     (below, legal.0.in_range, young_if_legal log legal.1 (omega (arith, legal.0.in_order, below)))
 
--- An entry whose numbers are in their ranges keeps a stream's retention at 24 hours or more.
 least_by : (e : Entry) (s n : ℕ) → IsInRange e → 24 ≤ n → 24 ≤ hours_after e s n
 least_by (entry.Made stream name shards) s n range so =
     cond_both (stream == s) FIRST_HOURS n (λ m. 24 ≤ m) (λ own. omega arith) (λ other. so)
@@ -120,16 +108,13 @@ least_by (entry.Kept stream wanted) s n range so =
     cond_both (stream == s) wanted n (λ m. 24 ≤ m) (λ own. range.0) (λ other. so)
 least_by _ s n range so = so
 
--- If all lines are young, each stream's retention is at least 24 hours.
 least_hours : (log : Journal) (s : ℕ) → IsYoung log → 24 ≤ hours log s
 least_hours [] s young = omega arith
 least_hours (line ∷ log) s young = least_by line.what s (hours log s) young.1 (least_hours log s young.2)
 
--- At a clock below 24 hours, a retention of at least 24 hours gives the trim floor 0.
 no_floor : (clock hours : ℕ) → clock < 86400000 → 24 ≤ hours → floor_at clock (hours * 3600000) ≡ 0
 no_floor clock hours below least = omega arith
 
--- If all lines are young, the newest line gives each stream the trim floor 0.
 floor_line : (log : Journal) (line : Line) (s : ℕ) → IsYoung (line ∷ log) → floor_after log line s ≡ 0
 floor_line log line s young =
     none (was_made (line ∷ log) s) (was_made log s) _ _
@@ -144,17 +129,14 @@ floor_line log line s young =
 pub both_none : (n m : ℕ) → n ≡ 0 → m ≡ 0 → max n m ≡ 0
 both_none n m h g = omega arith
 
--- If all lines are young, the trim floor that the lines give a stream is 0.
 floor_lines : (log : Journal) (s : ℕ) → IsYoung log → floor_of_lines log s ≡ 0
 floor_lines [] s young = refl
 floor_lines (line ∷ log) s young = both_none _ _ (floor_line log line s young) (floor_lines log s young.2)
 
--- If all lines are young and the clock is below 24 hours, the trim floor of each stream is 0.
 pub untrimmed : (log : Journal) (c s : ℕ) → IsYoung log → c < LEAST_RETENTION → trim_floor log c s ≡ 0
 untrimmed log c s young below =
     both_none _ _ (no_floor c (hours log s) below (least_hours log s young)) (floor_lines log s young)
 
--- If the trim floor of a stream is 0, a shard of this stream is listed exactly if it exists and the stream is live.
 listed_by : (log : Journal) (c s : ℕ) (o : Option ShardState) → trim_floor log c s ≡ 0
     → is_listed_state log c s o ≡ listed_at (is_live log s) o
 listed_by log c s None none = refl
@@ -201,8 +183,8 @@ module _ (f : ℕ → ℕ) where
   shards_after_undated line (entry.Made stream name count) s start xs =
       chosen (stream == s) (made_shards count start) xs (made_shards count start) (undated_all xs)
       (firsts_undated 0 start (uniform count)) refl
-  shards_after_undated line (entry.Split stream sh at number low high) s start xs =
-      chosen (stream == s) _ xs _ (undated_all xs) (split_undated sh at number line.clock start xs) refl
+  shards_after_undated line (entry.Split stream sh hash number low high) s start xs =
+      chosen (stream == s) _ xs _ (undated_all xs) (split_undated sh hash number line.clock start xs) refl
   shards_after_undated line (entry.Merged stream sh other number child) s start xs =
       chosen (stream == s) _ xs _ (undated_all xs) (merged_undated sh other number line.clock start xs) refl
   shards_after_undated line _ s start xs = refl
@@ -258,15 +240,13 @@ module _ (f : ℕ → ℕ) where
   young_step line rest true range young = (omega arith, range, young)
   young_step line rest false range young = young
 
-  -- If all lines of a journal are young, so are its lines on streams with their clocks set to 0.
   pub young_undated : (log : Journal) → IsYoung log → IsYoung (kept f log)
   young_undated [] young = tt
   young_undated (line ∷ log) young =
       young_step line (filter (λ l. is_stream_entry l.what) log) (is_stream_entry line.what) young.1
       (young_undated log young.2)
 
-  -- Let all lines be young and both clocks be below 24 hours. Then a shard is listed at the clock `c` exactly if it is
-  -- listed at `d` after the lines on streams alone.
+  -- Below 24 hours, whether a shard is listed follows from the lines on streams alone.
   pub listed_same : (log : Journal) (c d s sh : ℕ) → IsYoung log → c < LEAST_RETENTION → d < LEAST_RETENTION
       → is_listed log c s sh ≡ is_listed (kept f log) d s sh
   listed_same log c d s sh young below below' =

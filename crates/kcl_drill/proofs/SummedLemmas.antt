@@ -1,5 +1,4 @@
--- The summary of a drill, once each shard was read to its end, depends only on the commands for the stream service. As
--- long as the clock is below 24 hours, it doesn't matter which actors sent these commands, and when.
+-- Below 24 hours, a drained drill's summary depends only on the commands for the stream service.
 use Rattle.std.proofs.Common.{◌≡◌, ℕ, ◌+◌, ◌<◌, Bool, true, false, List, [], ◌∷◌, length, Option, Some, None, refl, sym}
 use Rattle.std.proofs.Common.{ap, ◌∙◌, arith}
 use Rattle.std.specs.Prelude.{◌==◌, ◌&&◌, not, map, reverse, cond, if◌then◌else◌}
@@ -38,11 +37,11 @@ use Rattle.kcl_drill.proofs.Undated.{undated_shard, undated_all, open_undated}
 
 -- ---- Records, with their arrivals set to 0
 
--- The record with the arrival 0 in place of its own.
+-- The record with the arrival 0.
 abbrev undated_record : Logged → Logged
 undated_record r = record r { arrival = 0 }
 
--- The records, each with the arrival 0 in place of its own.
+-- The records, each with the arrival 0.
 abbrev undated_records : List Logged → List Logged
 undated_records rs = map undated_record rs
 
@@ -64,7 +63,7 @@ records_undated f line (entry.Put stream shard seq hash bytes key_bytes) s sh rs
     } ∷ [])) refl
 records_undated f line _ s sh rs = refl
 
--- The records of a shard, with their arrivals set to 0, are those of the lines on streams alone.
+-- A shard's records, with their arrivals set to 0, follow from the lines on streams alone.
 records_same : (f : ℕ → ℕ) (log : Journal) (s sh : ℕ) → undated_records (records log s sh) ≡ records (kept f log) s sh
 records_same f log s sh =
     reads_same f (λ l. records l s sh) (λ line rs. records_after line line.what s sh rs) undated_records
@@ -72,12 +71,10 @@ records_same f log s sh =
     (λ line rs is. elsewhere.records_same line line.what s sh rs (no_stream line.what s is))
     (λ line rs. records_undated f line line.what s sh rs) log
 
--- The payload bytes of records don't depend on their arrivals.
 bytes_records : (rs : List Logged) → bytes_of (undated_records rs) ≡ bytes_of rs
 bytes_records [] = refl
 bytes_records (r ∷ rs) = ap (λ n. length r.payload + n) (bytes_records rs)
 
--- The checkpoint at the last record doesn't depend on arrivals.
 last_records : (rs : List Logged) → last_checkpoint (undated_records rs) ≡ last_checkpoint rs
 last_records [] = refl
 last_records (r ∷ []) = refl
@@ -85,11 +82,9 @@ last_records (r ∷ q ∷ rs) = last_records (q ∷ rs)
 
 -- ---- What the summary says of a shard that was read to its end
 
--- What a summary says of the shard `x` with the records `rs` once this shard was read to its end.
 final : ShardState → List Logged → Summed
 final x rs = summed x.no rs (final_checkpoint x rs)
 
--- What a summary says of a shard that was read to its end doesn't depend on clocks.
 final_undated : (x : ShardState) (rs : List Logged) → final (undated_shard x) (undated_records rs) ≡ final x rs
 unfolding final
 final_undated x rs =
@@ -106,11 +101,11 @@ final_undated x rs =
       bytes = n;
       checkpoint = final_checkpoint (undated_shard x) (undated_records rs);
     }) (bytes_records rs)
-    ∙ ap (λ at. record {
+    ∙ ap (λ mark. record {
       no = x.no;
       count = length rs;
       bytes = bytes_of rs;
-      checkpoint = if is_open (undated_shard x) then at else checkpoint.ShardEnd;
+      checkpoint = if is_open (undated_shard x) then mark else checkpoint.ShardEnd;
     })
     (last_records rs)
     ∙ ap (λ b. record {
@@ -121,7 +116,6 @@ final_undated x rs =
     })
     (open_undated (Some x))
 
--- What a summary says of a shard that was read to its end is the same for the lines on streams alone.
 final_kept_at : (f : ℕ → ℕ) (log : Journal) (s : ℕ) (x : ShardState)
     → final_at (kept f log) s (undated_shard x) ≡ final_at log s x
 unfolding final
@@ -135,7 +129,6 @@ final_kept_all f log s (x ∷ xs) =
     ap (λ y. y ∷ map (final_at (kept f log) s) (undated_all xs)) (final_kept_at f log s x)
     ∙ ap (λ ys. final_at log s x ∷ ys) (final_kept_all f log s xs)
 
--- The summary of a stream whose shards were read to their ends is the same for the lines on streams alone.
 final_kept_of : (f : ℕ → ℕ) (log : Journal) (o : Option ℕ) → final_of (kept f log) o ≡ final_of log o
 final_kept_of f log None = refl
 final_kept_of f log (Some s) =
@@ -145,14 +138,12 @@ final_kept_of f log (Some s) =
 abbrev final_text : Journal → List ℕ
 final_text log = final_of log (stream_named log drill_name)
 
--- The summary of the drill's stream, once each shard was read to its end, is the same for the lines on streams alone.
 final_kept : (f : ℕ → ℕ) (log : Journal) → final_text (kept f log) ≡ final_text log
 final_kept f log = ap (final_of (kept f log)) (sym (named_same f log drill_name))
     ∙ final_kept_of f log (stream_named log drill_name)
 
 -- ---- The summary if the rows say that each shard was read to its end
 
--- At the trim floor 0, each shard is listed.
 all_listed : (xs : List ShardState) → listed_among 0 xs ≡ xs
 all_listed [] = refl
 all_listed (x ∷ xs) = ap (λ b. cond (not b) (x ∷ listed_among 0 xs) (listed_among 0 xs)) (never x.closing)
@@ -162,7 +153,6 @@ all_listed (x ∷ xs) = ap (λ b. cond (not b) (x ∷ listed_among 0 xs) (listed
     never None = refl
     never (Some c) = grind (arith, nat_tests)
 
--- At the trim floor 0, all shards of a live stream are listed.
 listed_all : (log : Journal) (c s : ℕ) → is_live log s ≡ true → trim_floor log c s ≡ 0
     → listed_shards log c s ≡ shards log s
 listed_all log c s live none =
@@ -170,23 +160,19 @@ listed_all log c s live none =
     ∙ ap (λ n. listed_among n (shards log s)) none
     ∙ all_listed (shards log s)
 
--- If a row has the checkpoint `at`, this is the checkpoint that a summary prints.
-checkpoint_is : (o : Option Row) (at : Checkpoint) → option_map (λ r. r.checkpoint) o ≡ Some at → checkpoint_in o ≡ at
-checkpoint_is None at is = absurd cc
-checkpoint_is (Some r) at is = cc (is)
+checkpoint_is : (o : Option Row) (mark : Checkpoint) → option_map (λ r. r.checkpoint) o ≡ Some mark
+    → checkpoint_in o ≡ mark
+checkpoint_is None mark is = absurd cc
+checkpoint_is (Some r) mark is = cc (is)
 
--- If the row of each shard says that the shard was read to its end, the summary says the same of these shards as
--- `final_at`.
 drained_all : (log : Journal) (s : ℕ) (xs : List ShardState) → AllByRecursion (IsDrained log s) xs
     → map (summed_at log s) xs ≡ map (final_at log s) xs
 drained_all log s [] are = refl
 drained_all log s (x ∷ xs) are =
-    ap (λ at. summed x.no (records log s x.no) at ∷ map (summed_at log s) xs)
+    ap (λ mark. summed x.no (records log s x.no) mark ∷ map (summed_at log s) xs)
     (checkpoint_is (row log (ref s x.no)) _ are.0)
     ∙ ap (λ ys. final_at log s x ∷ ys) (drained_all log s xs are.1)
 
--- Suppose that the row of each listed shard says that the shard was read to its end, and that all trim floors are 0.
--- Then the summary is the one that `final_of` defines.
 summary_final : (log : Journal) (c : ℕ) (o : Option ℕ) → stream_named log drill_name ≡ o → AreDrained log c
     → ((s : ℕ) → trim_floor log c s ≡ 0)
     → summary_of log c o ≡ final_of log o
@@ -198,26 +184,22 @@ summary_final log c (Some s) is drained none =
 
 -- ---- The commands alone, as turns of the actor 0 at the moment 0
 
--- The turn with the actor 0 and the moment 0 in place of its own.
+-- The turn by the actor 0 at the moment 0.
 abbrev bare : Turn → Turn
 bare turn = record { by = 0; at = 0; what = turn.what }
 
--- If all turns are lawful, they still are with the actor 0 and the moment 0.
 bare_lawful : (h : List Turn) → IsHistory h → IsHistory (map bare h)
 bare_lawful [] lawful = tt
 bare_lawful (turn ∷ h) lawful = ((omega arith, lawful.0.1), bare_lawful h lawful.1)
 
--- If all turns have basic commands, they still have them with the actor 0 and the moment 0.
 bare_basic : (h : List Turn) → AreBasic h → AreBasic (map bare h)
 bare_basic [] are = tt
 bare_basic (turn ∷ h) are = (are.0, bare_basic h are.1)
 
--- The clock of turns at the moment 0 is 0.
 bare_clock : (h : List Turn) → clock (map bare h) ≡ 0
 bare_clock [] = refl
 bare_clock (turn ∷ h) = both_none _ 0 (bare_clock h) refl
 
--- Choosing the turns of the stream service and setting actors and moments to 0 can be done in either order.
 bare_services : (h : List Turn) → service_turns (map bare h) ≡ map bare (service_turns h)
 bare_services [] = refl
 bare_services (turn ∷ h) = either (is_service turn.what) (bare_services h)
@@ -228,7 +210,7 @@ bare_services (turn ∷ h) = either (is_service turn.what) (bare_services h)
     either true so = ap (λ ts. bare turn ∷ ts) so
     either false so = so
 
--- The function that gives 0 for each actor, so that it doesn't matter who sent a command.
+-- The function that gives 0 for each actor, so that all actors are alike.
 abbrev pub nobody : ℕ → ℕ
 nobody n = 0
 
@@ -240,8 +222,6 @@ bare_asked : (ts : List Turn) → map by_nobody (map bare ts) ≡ map by_nobody 
 bare_asked [] = refl
 bare_asked (turn ∷ ts) = ap (λ xs. by_nobody turn ∷ xs) (bare_asked ts)
 
--- Take a history's commands for the stream service alone, as turns of the actor 0 at the moment 0. Apart from actors,
--- these turns have the same commands for the stream service as the history.
 asks_same : (h : List Turn) → asked nobody h ≡ asked nobody (map bare (service_turns h))
 asks_same h =
     ap (map by_nobody) (services_twice h)
@@ -249,13 +229,11 @@ asks_same h =
     ∙ ap (map by_nobody) (sym (bare_services (service_turns h)))
 
 bare_turns : (ts : List Turn)
-    → map bare ts ≡ map (λ what. record { by = 0; at = 0; what = what }) (map (λ turn. turn.what) ts)
+    → map bare ts ≡ map (λ command. record { by = 0; at = 0; what = command }) (map (λ turn. turn.what) ts)
 bare_turns [] = refl
 bare_turns (turn ∷ ts) = ap (λ xs. bare turn ∷ xs) (bare_turns ts)
 
--- Suppose that the commands for the stream service in a history are a generator's, and that the clock is below 24
--- hours. Then the history leaves the same lines on streams as the generator's commands alone. Actors and clocks don't
--- count here.
+-- Up to actors and clocks, the history has the stream lines of the generator's commands alone.
 pub asked_alone : Reaches → (h : List Turn) (number count : ℕ) → IsHistory h → clock h < LEAST_RETENTION
     → map (λ turn. turn.what) (service_turns h) ≡ reverse (generated number count)
     → kept nobody (journal h) ≡ kept nobody (journal (turns_of (generated number count)))
@@ -267,12 +245,10 @@ asked_alone reaches h number count lawful below are =
     let basic' = bare_basic (service_turns h) (basic_service h basic) in
     let same = same_left reaches nobody (λ n. refl) h alone lawful lawful' basic basic' below below' (asks_same h) in
     let commands : alone ≡ turns_of (generated number count) =
-    bare_turns (service_turns h) ∙ ap (map (λ what. record { by = 0; at = 0; what = what })) are in
+    bare_turns (service_turns h) ∙ ap (map (λ command. record { by = 0; at = 0; what = command })) are in
     same ∙ ap (λ ts. kept nobody (journal ts)) commands
 
--- Suppose that the commands for the stream service in a history are a generator's, and that the clock is below 24
--- hours. If each listed shard was read to its end (`AreDrained`), the history's summary is the text that the drill
--- should print.
+-- Once each listed shard was read to its end, the summary is the text that the drill should print.
 pub text_alone : Reaches → (h : List Turn) (number count : ℕ) → IsHistory h → clock h < LEAST_RETENTION
     → map (λ turn. turn.what) (service_turns h) ≡ reverse (generated number count) → AreDrained (journal h) (clock h)
     → summary_text (journal h) (clock h) ≡ drill_text number count

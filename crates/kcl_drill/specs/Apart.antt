@@ -1,6 +1,4 @@
--- The turns for the stream service in a history, without its turns on leases, and the lines on streams in a journal.
--- Once each shard was read to its end, a drill's summary depends only on these lines, and the lines depend only on
--- these turns.
+-- A history's turns for the stream service, and a journal's lines on streams.
 use Rattle.std.specs.Prelude.{ℕ, ◌≡◌, Bool, true, false, is_some, List, map}
 use Rattle.std.specs.List.{AllByRecursion, filter}
 use Rattle.kds_defs.specs.declared.command.Command.{Command}
@@ -11,34 +9,32 @@ use Rattle.kds_defs.specs.Journal.{Line, Journal}
 use Rattle.kds_defs.specs.Kinds.{is_service}
 use Rattle.kds_defs.specs.Subjects.{stream_of}
 
--- 24 hours in milliseconds: the shortest retention of a stream. As long as the clock is below this number, no record is
--- trimmed (Kinesis API Reference, DecreaseStreamRetentionPeriod).
+-- 24 hours in ms, the shortest retention (Kinesis API Reference, DecreaseStreamRetentionPeriod).
 abbrev pub LEAST_RETENTION : ℕ
 LEAST_RETENTION = 86400000
 
 -- Whether the entry is about a stream, and not about a lease.
-abbrev pub is_stream_entry : Entry → Bool
-is_stream_entry what = is_some (stream_of what)
+abbrev pub is_stream_entry : (entry : Entry) → Bool
+is_stream_entry entry = is_some (stream_of entry)
 
--- The line with the clock 0 in place of its own.
-abbrev pub undated : Line → Line
+-- The line at the clock 0.
+abbrev pub undated : (line : Line) → Line
 undated line = record line { clock = 0 }
 
--- The lines of the journal that are about streams, each with the clock 0 in place of its own.
-abbrev pub stream_lines : Journal → Journal
+-- The lines about streams, each at the clock 0.
+abbrev pub stream_lines : (log : Journal) → Journal
 stream_lines log = map undated (filter (λ line. is_stream_entry line.what) log)
 
--- The turns of the history whose commands are for the stream service, and not for the leases.
-abbrev pub service_turns : List Turn → List Turn
+-- The turns for the stream service, and not for the leases.
+abbrev pub service_turns : (h : List Turn) → List Turn
 service_turns h = filter (λ turn. is_service turn.what) h
 
--- Whether the command is neither UpdateShardCount (`Scale`) nor LocalEnforceLimits (`Enforce`), which turns the limits
--- on writing on or off.
-abbrev pub is_basic : Command → Bool
+-- Whether the command is neither UpdateShardCount nor LocalEnforceLimits.
+abbrev pub is_basic : (command : Command) → Bool
 is_basic (command.Scale name target) = false
-is_basic (command.Enforce name on) = false
+is_basic (command.Enforce name is_on) = false
 is_basic _ = true
 
--- `is_basic` is true of the command of each turn of the history.
-abbrev pub AreBasic : List Turn → Type 0
+-- No turn scales a stream or turns its limits on or off.
+abbrev pub AreBasic : (h : List Turn) → Type 0
 AreBasic h = AllByRecursion (λ turn. is_basic turn.what ≡ true) h

@@ -1,5 +1,4 @@
--- The turns of a drill, in whatever order its threads took them. The root is the actor that makes the stream, and the
--- feeder is the actor that puts the records.
+-- A drill's turns, however its threads ran: the root makes the stream, the feeder puts the records.
 use Rattle.std.specs.Prelude.{ℕ, ◌<◌, ◌≡◌, Bool, false, ◌==◌, List, [], ◌∷◌, ◌++◌, map, reverse}
 use Rattle.std.specs.List.{AllByRecursion, filter}
 use Rattle.kds_defs.specs.declared.command.Command.{Command}
@@ -13,20 +12,18 @@ use Rattle.kcl_drill.specs.declared.limits.TheConstants.{FIRST_SHARDS}
 use Rattle.kcl_drill.specs.Generated.{drill_name, first_open, from_record, generated}
 
 -- Whether the turn is by the actor `n`.
-abbrev pub is_by : ℕ → Turn → Bool
+abbrev pub is_by : (n : ℕ) (turn : Turn) → Bool
 is_by n turn = turn.by == n
 
 -- The turns of the actor `n` in the history `h`.
-abbrev pub turns_by : ℕ → List Turn → List Turn
+abbrev pub turns_by : (n : ℕ) (h : List Turn) → List Turn
 turns_by n h = filter (is_by n) h
 
 -- The commands of the turns, in the same order.
-abbrev pub commands_in : List Turn → List Command
+abbrev pub commands_in : (ts : List Turn) → List Command
 commands_in ts = map (λ turn. turn.what) ts
 
--- In the history `h`, the actor `root` made just one turn, the CreateStream of a drill. All turns of the actor `feeder`
--- come after this turn. Their commands are the further commands of the drill with the number `number` and with
--- `records` records, in order. All turns of other actors are on leases.
+-- The root's only turn is CreateStream; after it the feeder sends the rest in order; others' turns are on leases.
 pub record IsFed (number records root feeder : ℕ) (h : List Turn) : Type 0 where
   pub newer : List Turn
   pub first : Turn
@@ -39,9 +36,7 @@ pub record IsFed (number records root feeder : ℕ) (h : List Turn) : Type 0 whe
   pub others : AllByRecursion (λ turn. (turn.by == root) ≡ false → (turn.by == feeder) ≡ false
       → is_service turn.what ≡ false) h
 
--- The turns of the history `h` are lawful, and its clock is below 24 hours. Its commands for the stream service are
--- those of the drill with the number `number` and with `records` records (`generated`). A history has its newest turn
--- first, so these commands stand in reverse.
+-- A lawful history below 24 hours whose commands for the stream service are the generator's, newest first.
 pub record IsDrill (h : List Turn) (number records : ℕ) : Type 0 where
   pub lawful : IsHistory h
   pub below : clock h < LEAST_RETENTION

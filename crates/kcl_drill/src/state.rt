@@ -39,7 +39,7 @@ impl State {
     /// the number of records to be made.
     pub fn new(alloc: Global, number: u64, records: u64) -> State
         ensures is { coming result ≡ generated number records }
-        ensures sound { IsSound result }
+        ensures well_formed { IsSound result }
     {
         State {
             alloc,
@@ -54,12 +54,12 @@ impl State {
     /// Returns CreateStream, the first command of a drill. If memory runs out, the commands that are still to come
     /// don't change.
     pub fn create(&mut self) -> Result<Command, Memory>
-        requires sound { IsSound self.old }
+        requires well_formed { IsSound self.old }
         requires stage { self.old.stage ≡ stage.Create }
         ensures ok { IfOk result (λ c. coming self.old ≡ c ∷ coming self.new) }
         ensures lawful { IfOk result IsLawfulCommand }
         ensures err { OnErr result (coming self.new ≡ coming self.old) }
-        ensures sound { IsSound self.new }
+        ensures well_formed { IsSound self.new }
     {
         let name = stream_name(self.alloc)?;
         self.opens = OpenShards::first(self.alloc)?;
@@ -73,12 +73,12 @@ impl State {
     /// Returns the command that puts the next record, or `None` if no record is left. If memory runs out, the commands
     /// that are still to come don't change.
     pub fn put(&mut self) -> Result<Option<Command>, Memory>
-        requires sound { IsSound self.old }
+        requires well_formed { IsSound self.old }
         requires stage { self.old.stage ≡ stage.Put }
         ensures ok { IfOk result (λ next. GivesNext next (coming self.old) (coming self.new)) }
         ensures lawful { IfOk result (λ next. IfSome next IsLawfulCommand) }
         ensures err { OnErr result (coming self.new ≡ coming self.old) }
-        ensures sound { IsSound self.new }
+        ensures well_formed { IsSound self.new }
     {
         if self.left == 0 {
             return Ok(None);
@@ -96,12 +96,12 @@ impl State {
     /// Returns the command of the split or merge that is due now, or `None` if neither is due. If memory runs out, the
     /// commands that are still to come don't change.
     pub fn reshard(&mut self) -> Result<Option<Command>, Memory>
-        requires sound { IsSound self.old }
+        requires well_formed { IsSound self.old }
         requires stage { self.old.stage ≡ stage.Reshard }
         ensures ok { IfOk result (λ next. GivesPlan next (coming self.old) (coming self.new) self.new.stage) }
         ensures lawful { IfOk result (λ next. IfSome next IsLawfulCommand) }
         ensures err { OnErr result (coming self.new ≡ coming self.old) }
-        ensures sound { IsSound self.new }
+        ensures well_formed { IsSound self.new }
     {
         let Some(plan) = find_plan(self.count, self.drawn, &self.opens) else {
             self.stage = DrillStage::Put;

@@ -1,15 +1,14 @@
--- A row that waits to be drained is taken, and its shard is opened. Then the new tenure is ready for its first read.
--- `stands` and `stands'` say which histories the machine stands for before and after a command.
+-- A row that waits is taken and its shard is opened, so that the new tenure is ready for its first read.
 use Rattle.std.proofs.Common.{◌≡◌, ℕ, ◌+◌, ◌-◌, ◌<◌, ◌≤◌, ◌^◌, max, true, false, List, [], ◌∷◌, ◌++◌, length, Some}
 use Rattle.std.proofs.Common.{refl, sym, ap, subst, ◌∙◌, arith, inl, inr}
 use Rattle.std.specs.Prelude.{◌==◌, min, slice_get, if◌then◌else◌, Result, Ok}
 use Rattle.std.specs.Option.{option_map}
 use Rattle.std.proofs.lemmas.Bool.Decides.{nat_tests}
+use Rattle.std.proofs.lemmas.Option.{same_Some}
 use Rattle.kds_base.specs.declared.lease_key.Checkpoint.{Checkpoint}
 use Rattle.kds_base.specs.declared.lease_key.Checkpoint.TheVariants.{TrimHorizon, At, ShardEnd}
 use Rattle.kds_base.specs.declared.lease_key.ShardRef.{ShardRef}
 use Rattle.kds_base.specs.Checkpoints.{is_end as base_is_end}
-use Rattle.kds_base.proofs.Facts.{same_some}
 use Rattle.kds_defs.specs.declared.command.Command.TheVariants as command
 use Rattle.kds_defs.specs.declared.command.Turn.{Turn}
 use Rattle.kds_defs.specs.declared.reply.Refusal.{Refusal}
@@ -46,72 +45,63 @@ use Rattle.kcl_drill_drain.proofs.Spots.{apart, key_is, listed, none_yet, one_mo
 use Rattle.kds_defs.specs.Streams.{trim_floor}
 use Rattle.kds_defs.specs.Records.{left_among}
 
--- The first of three laws that the lemmas take as given: the take of a row that can be taken (`MayTake`) is accepted
--- (`IsTakenSo`).
+-- The law, taken as given, that the take of a row that can be taken (`MayTake`) is accepted.
 abbrev pub TakeLaw : Type 0
-TakeLaw = (log : Journal) (c by owner : ℕ) (key : ShardRef) (r : Row) → row log key ≡ Some r → MayTake log r
-    → IsTakenSo log c by owner key r
+TakeLaw = (log : Journal) (c actor owner : ℕ) (key : ShardRef) (r : Row) → row log key ≡ Some r → MayTake log r
+    → IsTakenSo log c actor owner key r
 
--- The second of these laws: right after a row was taken, the opening of its shard is accepted (`IsOpenedSo`), if the
--- shard may be opened (`MayOpen`).
+-- The law, taken as given, that right after a take, the opening of a shard that may be opened is accepted.
 abbrev pub OpenLaw : Type 0
-OpenLaw = (log : Journal) (c d by owner : ℕ) (key : ShardRef) (r : Row) → row log key ≡ Some r
-    → MayOpen (taken_line log d by key r owner ∷ log) c key → IsOpenedSo log c d by owner key r
+OpenLaw = (log : Journal) (c d actor owner : ℕ) (key : ShardRef) (r : Row) → row log key ≡ Some r
+    → MayOpen (taken_line log d actor key r owner ∷ log) c key → IsOpenedSo log c d actor owner key r
 
--- The third of these laws: after a row was taken and its shard was opened, the new tenure is as `begun_from` says.
+-- The law, taken as given, that after a take and an opening the new tenure is as `begun_from` says.
 abbrev pub BegunLaw : Type 0
-BegunLaw = (log : Journal) (c d by owner : ℕ) (key : ShardRef) (r : Row) → row log key ≡ Some r
-    → Holds (opened_line log d by ∷ taken_line log c by key r owner ∷ log) (begun_from log by key r)
+BegunLaw = (log : Journal) (c d actor owner : ℕ) (key : ShardRef) (r : Row) → row log key ≡ Some r
+    → Holds (opened_line log d actor ∷ taken_line log c actor key r owner ∷ log) (begun_from log actor key r)
 
--- A number below 2^64 - 1 isn't the last number.
 pub not_last : (n : ℕ) → n < 2 ^ 64 - 1 → (n == last_number) ≡ false
 not_last n below = grind (arith, nat_tests)
 
--- `kds_base` and the definitions each have a test of whether a checkpoint is SHARD_END. The two tests give the same.
+-- The two tests of a checkpoint for SHARD_END, of `kds_base` and of the definitions, give the same.
 pub end_same : (cp : Checkpoint) → base_is_end cp ≡ is_end cp
 end_same TrimHorizon = refl
 end_same (At q) = refl
 end_same ShardEnd = refl
 
--- In these lemmas, `w` is one of the listed keys, `at` is the moment of the turns, and `laws` are the facts about the
--- history before the drain.
-module _ (w : Spot) (at : ℕ) (spot : IsSpot w at) (laws : HasLaws w.history (clock_at w at)) where
-  -- The records of the shard that are left from a position on are all its records from this position on, since none is
-  -- trimmed.
-  pub left_is : (p : ℕ) → left_of (journal w.history) (clock_at w at) w.key p
+module _ (w : Spot) (moment : ℕ) (spot : IsSpot w moment) (laws : HasLaws w.history (clock_at w moment)) where
+  -- No record is trimmed, so all records from the position on are left.
+  pub left_is : (p : ℕ) → left_of (journal w.history) (clock_at w moment) w.key p
       ≡ from p (records_of (journal w.history) w.key)
   left_is p =
-      ap (λ b. if b then left_among (trim_floor (journal w.history) (clock_at w at) w.key.stream) p
-      (records_of (journal w.history) w.key) else []) (key_is w at spot laws).live
-      ∙ left_all (trim_floor (journal w.history) (clock_at w at) w.key.stream) p (records_of (journal w.history) w.key)
-      ((whole_is w at spot laws).above w.key.shard)
+      ap (λ b. if b then left_among (trim_floor (journal w.history) (clock_at w moment) w.key.stream) p
+      (records_of (journal w.history) w.key) else []) (key_is w moment spot laws).live
+      ∙ left_all (trim_floor (journal w.history) (clock_at w moment) w.key.stream) p
+      (records_of (journal w.history) w.key)
+      ((whole_is w moment spot laws).above w.key.shard)
 
-  -- The sequence numbers of the shard's records rise from the shard's starting sequence number.
   pub up : IsUp (start_of (shard_of (journal w.history) w.key)) (records_of (journal w.history) w.key)
   up = up_rising _ _ _ (laws.drawn w.key.stream w.key.shard)
 
   -- ---- The take of the row
 
-  -- If the rows of the keys before this one are drained and the others wait, then this key's row is the one that the
-  -- survey showed. It is as a row can be before its drain (`IsFresh`).
   seen_row : (now : Journal) (r : Row) → AreDrainedTo w.history w.keys w.among w.index now
       → row_among w.among w.key ≡ Some r → (row now w.key ≡ Some r) × IsFresh w.history w.key r
   seen_row now r drained seen =
       let f = drained.waits w.index w.key (omega arith) spot.here in
-      let e : f.now ≡ r = same_some f.now r (sym f.seen ∙ seen) in
+      let e : f.now ≡ r = same_Some f.now r (sym f.seen ∙ seen) in
       (f.there ∙ ap Some e, subst (IsFresh w.history w.key) e f.fresh)
 
-  -- If the row of the key waits to be drained, has the counter `counter` and isn't at SHARD_END, its Take is accepted.
-  -- Afterwards `IsTaken` holds for the new tenure.
-  pub taken : (stands stands' : List Turn → Type 0) (by counter : ℕ) (key : ShardRef) (r : Row)
-      (a : Result Reply Refusal) → TakeLaw → at < 2 ^ 62 → w.key ≡ key → r.counter ≡ counter
+  -- The Take of a row that waits and isn't at SHARD_END is accepted.
+  pub taken : (stands stands' : List Turn → Type 0) (actor counter : ℕ) (key : ShardRef) (r : Row)
+      (a : Result Reply Refusal) → TakeLaw → moment < 2 ^ 62 → w.key ≡ key → r.counter ≡ counter
       → row_among w.among w.key ≡ Some r → is_end r.checkpoint ≡ false
-      → (l : Leads stands by at w.history (AreDrainedTo w.history w.keys w.among w.index))
-      → Answered stands stands' (turn_of by at (command.Take key counter 1)) a
+      → (l : Leads stands actor moment w.history (AreDrainedTo w.history w.keys w.among w.index))
+      → Answered stands stands' (turn_of actor moment (command.Take key counter 1)) a
       → (t n : ℕ) × (a ≡ Ok (reply.Taken t n r.checkpoint))
-      × Leads stands' by at w.history
-      (IsTaken w by r (record { tenure = t; position = first_position r.checkpoint; counter = n }))
-  taken stands stands' by counter key r a law below same_k same_n seen going l answers =
+      × Leads stands' actor moment w.history
+      (IsTaken w actor r (record { tenure = t; position = first_position r.checkpoint; counter = n }))
+  taken stands stands' actor counter key r a law below same_k same_n seen going l answers =
       let now = journal (l.more ++ w.history) in
       let f = seen_row now r l.so seen in
       let may : MayTake now r = (
@@ -119,19 +109,21 @@ module _ (w : Spot) (at : ℕ) (spot : IsSpot w at) (laws : HasLaws w.history (c
         not_last r.counter (omega (arith, f.1.few, spot.can.few)),
         not_last (taken_count now) (omega (arith, l.so.few, spot.can.few, spot.few)),
       ) in
-      let asked = subst (λ n. Answered stands stands' (turn_of by at (command.Take key n 1)) a) (sym same_n) answers in
-      let asked' = subst (λ k. Answered stands stands' (turn_of by at (command.Take k r.counter 1)) a) (sym same_k)
+      let asked = subst (λ n. Answered stands stands' (turn_of actor moment (command.Take key n 1)) a) (sym same_n)
+      answers in
+      let asked' = subst (λ k. Answered stands stands' (turn_of actor moment (command.Take k r.counter 1)) a)
+      (sym same_k)
       asked in
       let held : DrainTenure =
       record { tenure = taken_count now + 1; position = first_position r.checkpoint; counter = r.counter + 1 } in
-      let one = led stands stands' by at w.history (command.Take w.key r.counter 1) a
-      (AreDrainedTo w.history w.keys w.among w.index) (IsTaken w by r held)
-      (Accepted (taken_line now (clock_at w at) by w.key r 1 ∷ [])
+      let one = led stands stands' actor moment w.history (command.Take w.key r.counter 1) a
+      (AreDrainedTo w.history w.keys w.among w.index) (IsTaken w actor r held)
+      (Accepted (taken_line now (clock_at w moment) actor w.key r 1 ∷ [])
       (reply.Taken (taken_count now + 1) (r.counter + 1) r.checkpoint)) refl (below, omega arith) asked' l
-      (law now (clock_at w at) by 1 w.key r f.0 may)
+      (law now (clock_at w moment) actor 1 w.key r f.0 may)
       (record {
         before = now;
-        clock = clock_at w at;
+        clock = clock_at w moment;
         is = refl;
         there = f.0;
         drained = l.so;
@@ -142,8 +134,6 @@ module _ (w : Spot) (at : ℕ) (spot : IsSpot w at) (laws : HasLaws w.history (c
       }) in
       (taken_count now + 1, r.counter + 1, one.0, one.1)
 
-  -- If a row that waits to be drained is at SHARD_END, its checkpoint is the one of a shard that was read to its end
-  -- (`final_of`).
   ends_so : (floor : ℕ) (cp : Checkpoint) → is_end cp ≡ true
       → IsStart (shard_of (journal w.history) w.key) (records_of (journal w.history) w.key) floor cp
       → final_of (journal w.history) w.key ≡ cp
@@ -152,56 +142,51 @@ module _ (w : Spot) (at : ℕ) (spot : IsSpot w at) (laws : HasLaws w.history (c
   ends_so floor ShardEnd ends is =
       ap (λ b. if b then ShardEnd else last_checkpoint (records_of (journal w.history) w.key)) is
 
-  -- If the survey showed the row of the key at SHARD_END, the row is drained without a turn.
-  pub at_end : (stands : List Turn → Type 0) (by : ℕ) (r : Row) → row_among w.among w.key ≡ Some r
-      → is_end r.checkpoint ≡ true → Leads stands by at w.history (AreDrainedTo w.history w.keys w.among w.index)
-      → IsDrainedHere stands w by at
-  at_end stands by r seen ends l =
-      so_too stands by at w.history (AreDrainedTo w.history w.keys w.among w.index)
+  -- A row that the survey showed at SHARD_END is drained without a turn.
+  pub at_end : (stands : List Turn → Type 0) (actor : ℕ) (r : Row) → row_among w.among w.key ≡ Some r
+      → is_end r.checkpoint ≡ true → Leads stands actor moment w.history (AreDrainedTo w.history w.keys w.among w.index)
+      → IsDrainedHere stands w actor moment
+  at_end stands actor r seen ends l =
+      so_too stands actor moment w.history (AreDrainedTo w.history w.keys w.among w.index)
       (AreDrainedTo w.history w.keys w.among (w.index + 1)) l (λ drained. one (journal (l.more ++ w.history)) drained)
     where
       one : (now : Journal) → AreDrainedTo w.history w.keys w.among w.index now
           → AreDrainedTo w.history w.keys w.among (w.index + 1) now
       one now drained =
           let f = seen_row now r drained seen in
-          one_more w at spot laws now (none_yet w at spot laws now drained)
+          one_more w moment spot laws now (none_yet w moment spot laws now drained)
           (ap (option_map (λ (x : Row). x.checkpoint)) f.0
           ∙ ap Some (sym (ends_so r.floor r.checkpoint ends f.1.start)))
 
   -- ---- The opening of the shard
 
-  -- The take of this key's row changes no row of another key.
-  stays : (before : Journal) (d by : ℕ) (r : Row) (key : ShardRef) → same_key w.key key ≡ false
-      → row (taken_line before d by w.key r 1 ∷ before) key ≡ row before key
-  stays before d by r key other =
-      ap (λ b. if b then option_map (taken_row (taken_count before + 1) 1) (row before key) else row before key) other
+  stays : (old : Journal) (d actor : ℕ) (r : Row) (key : ShardRef) → same_key w.key key ≡ false
+      → row (taken_line old d actor w.key r 1 ∷ old) key ≡ row old key
+  stays old d actor r key other =
+      ap (λ b. if b then option_map (taken_row (taken_count old + 1) 1) (row old key) else row old key) other
 
-  -- The rows of the keys before this one are still drained after the take.
-  done_yet : (before : Journal) (d by : ℕ) (r : Row) → AreDrainedTo w.history w.keys w.among w.index before
+  done_yet : (old : Journal) (d actor : ℕ) (r : Row) → AreDrainedTo w.history w.keys w.among w.index old
       → (j : ℕ) (key : ShardRef) → j < w.index → slice_get w.keys j ≡ Some key
-      → IsDone w.history key (row (taken_line before d by w.key r 1 ∷ before) key)
-  done_yet before d by r drained j key lt is =
-      subst (IsDone w.history key) (sym (stays before d by r key (apart w at spot laws j key is (inl lt))))
+      → IsDone w.history key (row (taken_line old d actor w.key r 1 ∷ old) key)
+  done_yet old d actor r drained j key lt is =
+      subst (IsDone w.history key) (sym (stays old d actor r key (apart w moment spot laws j key is (inl lt))))
       (drained.done j key lt is)
 
-  -- After the take and the opening, the other keys are as they should be (`OthersWait`).
-  waits_yet : (before : Journal) (d by : ℕ) (r : Row) → AreDrainedTo w.history w.keys w.among w.index before
-      → OthersWait w (opened_line before (clock_at w at) by ∷ taken_line before d by w.key r 1 ∷ before)
-  waits_yet before d by r drained = record {
-    done = done_yet before d by r drained;
+  waits_yet : (old : Journal) (d actor : ℕ) (r : Row) → AreDrainedTo w.history w.keys w.among w.index old
+      → OthersWait w (opened_line old (clock_at w moment) actor ∷ taken_line old d actor w.key r 1 ∷ old)
+  waits_yet old d actor r drained = record {
+    done = done_yet old d actor r drained;
     waits = λ j key above is.
         let f = drained.waits j key (omega arith) is in
         record {
           now = f.now;
-          there = stays before d by r key (apart w at spot laws j key is (inr above)) ∙ f.there;
+          there = stays old d actor r key (apart w moment spot laws j key is (inr above)) ∙ f.there;
           seen = f.seen;
           fresh = f.fresh;
         };
     few = omega (arith, drained.few);
   }
 
-  -- If a record has the number `q` or a greater one, and all numbers of the records are below `n`, then `q` is below
-  -- `n`.
   below_next : (q p n : ℕ) (xs : List Logged) → RiseBetween p xs n → HasFrom q xs → q < n
   below_next q p n [] is has = absurd has
   below_next q p n (x ∷ xs) is (inl le) = let m = rises (x.seq + 1) n xs is.1 in omega arith
@@ -211,17 +196,13 @@ module _ (w : Spot) (at : ℕ) (spot : IsSpot w at) (laws : HasLaws w.history (c
       rises p n (x ∷ xs) is = let m = rises (x.seq + 1) n xs is.1 in omega (arith, is.0, m)
   below_next q p n (x ∷ xs) is (inr has) = below_next q (x.seq + 1) n xs is.1 has
 
-  -- What is true of a row with the floor `floor` and the checkpoint `cp` when its drain begins. The first read is at
-  -- the position after `cp`, which isn't above the last number. If no record is left from this position on, `cp` is the
-  -- checkpoint at the shard's last record. The least number that may be marked is at most the greater of this position
-  -- and the shard's start.
+  -- When a row's drain begins: if no record is left, `cp` is at the last one; what is read next may be marked.
   record Begins (floor : ℕ) (cp : Checkpoint) : Type 0 where
     position : start_position cp ≡ first_position cp
-    settled : left_of (journal w.history) (clock_at w at) w.key (start_position cp) ≡ []
+    settled : left_of (journal w.history) (clock_at w moment) w.key (start_position cp) ≡ []
         → cp ≡ last_checkpoint (records_of (journal w.history) w.key)
     low : least cp floor ≤ max (start_position cp) (start_of (shard_of (journal w.history) w.key))
 
-  -- If the checkpoint is one from which the shard can be drained (`IsStart`) and isn't SHARD_END, then `Begins` holds.
   begins : (floor : ℕ) (cp : Checkpoint) → is_end cp ≡ false
       → IsStart (shard_of (journal w.history) w.key) (records_of (journal w.history) w.key) floor cp → Begins floor cp
   begins floor TrimHorizon going is = record {
@@ -241,37 +222,40 @@ module _ (w : Spot) (at : ℕ) (spot : IsSpot w at) (laws : HasLaws w.history (c
       small q n lt le = omega arith
   begins floor ShardEnd going is = absurd cc
 
-  -- If the newest line took the key's row, and the row wasn't at SHARD_END, the opening of the key's shard is accepted.
-  -- Then the tenure is ready for its first read (`ReadsOn`).
-  pub opened : (stands stands' : List Turn → Type 0) (by : ℕ) (r : Row) (held : DrainTenure) (a : Result Reply Refusal)
-      → OpenLaw → BegunLaw → at < 2 ^ 62 → is_end r.checkpoint ≡ false
-      → (l : Leads stands by at w.history (IsTaken w by r held))
-      → Answered stands stands' (turn_of by at (command.OpenShard held.tenure)) a
-      → ReadsOn stands' w by at held
-  opened stands stands' by r held a law begun below going l answers =
+  -- The opening of the shard just taken is accepted, and the tenure is ready for its first read.
+  pub opened : (stands stands' : List Turn → Type 0) (actor : ℕ) (r : Row) (held : DrainTenure)
+      (a : Result Reply Refusal)
+      → OpenLaw → BegunLaw → moment < 2 ^ 62 → is_end r.checkpoint ≡ false
+      → (l : Leads stands actor moment w.history (IsTaken w actor r held))
+      → Answered stands stands' (turn_of actor moment (command.OpenShard held.tenure)) a
+      → ReadsOn stands' w actor moment held
+  opened stands stands' actor r held a law begun below going l answers =
       let now = journal (l.more ++ w.history) in
       let t = l.so in
-      let before = t.before in
-      let c = clock_at w at in
-      let took = taken_line before t.clock by w.key r 1 ∷ before in
-      let x : Holding = begun_from before by w.key r in
-      let there = subst (IsOver w.history c) t.is (over stands by at w.history (IsTaken w by r held) laws l) in
-      let may : MayOpen took c w.key =
-      (listed w at spot laws took there, past w at spot laws took there (done_yet before t.clock by r t.drained)) in
-      let opens = law before c t.clock by 1 w.key r t.there may in
-      let decided : open_shard now c by held.tenure ≡ Accepted (opened_line before c by ∷ []) reply.Done =
-      ap (λ n. open_shard now c by n) t.number ∙ ap (λ log. open_shard log c by (taken_count before + 1)) t.is
+      let old = t.before in
+      let c = clock_at w moment in
+      let took = taken_line old t.clock actor w.key r 1 ∷ old in
+      let x : Holding = begun_from old actor w.key r in
+      let there = subst (IsOver w.history c) t.is
+      (over stands actor moment w.history (IsTaken w actor r held) laws l) in
+      let may : MayOpen took c w.key = (
+        listed w moment spot laws took there,
+        past w moment spot laws took there (done_yet old t.clock actor r t.drained),
+      ) in
+      let opens = law old c t.clock actor 1 w.key r t.there may in
+      let decided : open_shard now c actor held.tenure ≡ Accepted (opened_line old c actor ∷ []) reply.Done =
+      ap (λ n. open_shard now c actor n) t.number ∙ ap (λ log. open_shard log c actor (taken_count old + 1)) t.is
       ∙ opens in
-      let stands_so : Stands w by x (opened_line before c by ∷ took) =
+      let stands_so : Stands w actor x (opened_line old c actor ∷ took) =
       record {
-        others = waits_yet before t.clock by r t.drained;
-        holds = begun before t.clock c by 1 w.key r t.there;
+        others = waits_yet old t.clock actor r t.drained;
+        holds = begun old t.clock c actor 1 w.key r t.there;
         own = refl;
         of_key = refl;
       } in
-      let one = led stands stands' by at w.history (command.OpenShard held.tenure) a (IsTaken w by r held)
-      (Stands w by x) (Accepted (opened_line before c by ∷ []) reply.Done) refl (below, tt) answers l
-      decided (subst (λ log. Stands w by x (opened_line before c by ∷ log)) (sym t.is) stands_so) in
+      let one = led stands stands' actor moment w.history (command.OpenShard held.tenure) a (IsTaken w actor r held)
+      (Stands w actor x) (Accepted (opened_line old c actor ∷ []) reply.Done) refl (below, tt) answers l
+      decided (subst (λ log. Stands w actor x (opened_line old c actor ∷ log)) (sym t.is) stands_so) in
       let b = begins r.floor r.checkpoint going t.fresh.start in
       let fewer = fewer_from (start_position r.checkpoint) (records_of (journal w.history) w.key) in
       record {

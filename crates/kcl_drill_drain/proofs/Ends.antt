@@ -25,64 +25,59 @@ use Rattle.kcl_drill_drain.proofs.Leading.{IsOver, over}
 use Rattle.kcl_drill_drain.proofs.Overs.{same_listed}
 use Rattle.kcl_drill_drain.proofs.Spots.{key_there, number_at}
 
--- What is true of the element at each index of a list is true of each element.
 all_of : {A : Type 0} (P : A → Type 0) (xs : List A) → ((i : ℕ) (x : A) → slice_get xs i ≡ Some x → P x)
     → AllByRecursion P xs
 all_of P [] each = tt
 all_of P (x ∷ xs) each = (each zero x refl, all_of P xs (λ i y is. each (suc i) y is))
 
--- A choice by the opposite of a Boolean is the choice by this Boolean with the two values exchanged.
 flipped : (b : Bool) (E L : Checkpoint) → (if not b then E else L) ≡ (if b then L else E)
 flipped true E L = refl
 flipped false E L = refl
 
--- In these lemmas, the history `h` can be drained at the moment `at`. Turns on leases led to the journal `log`, in
--- which the rows of all listed keys are drained.
-module _ (h : List Turn) (at : ℕ) (among : List Row) (can : CanDrain h at) (laws : HasLaws h (max (clock h) at))
-    (log : Journal) (is : IsOver h (max (clock h) at) log)
-    (done : AreDrainedTo h (listed_keys h at) among (length (listed_keys h at)) log) where
-  -- Each shard of a live stream is drained.
+-- Turns on leases after `h` led to the journal `log`, in which the rows of all listed keys are drained.
+module _ (h : List Turn) (moment : ℕ) (among : List Row) (can : CanDrain h moment)
+    (laws : HasLaws h (max (clock h) moment))
+    (log : Journal) (is : IsOver h (max (clock h) moment) log)
+    (done : AreDrainedTo h (listed_keys h moment) among (length (listed_keys h moment)) log) where
   drained_at : (s i : ℕ) (x : ShardState) → is_live (journal h) s ≡ true → slice_get (shards (journal h) s) i ≡ Some x
       → IsDrained log s x
   drained_at s i x live there =
       let e = number_at 0 i (shards (journal h) s) x (laws.numbered s) there in
       let no : i ≡ x.no = omega arith in
       let here : shard_at (journal h) s x.no ≡ Some x = ap (slice_get (shards (journal h) s)) (sym no) ∙ there in
-      let k = key_there h at s x.no x can.whole laws live here in
-      let d = done.done k.0 (ref s x.no) (slice_get_within (listed_keys h at) k.0 (ref s x.no) k.1) k.1 in
+      let k = key_there h moment s x.no x can.whole laws live here in
+      let d = done.done k.0 (ref s x.no) (slice_get_within (listed_keys h moment) k.0 (ref s x.no) k.1) k.1 in
       d
       ∙ ap (λ o. Some (if is_closed_at o then ShardEnd else last_checkpoint (records (journal h) s x.no))) here
       ∙ ap Some (flipped (is_none x.closing) ShardEnd (last_checkpoint (records (journal h) s x.no)))
       ∙ ap (λ rs. Some (final_checkpoint x rs)) (sym (is.streams.records s x.no))
 
-  -- Each listed shard of the stream `s` is drained. `b` says whether the stream is live.
   drained_by : (s : ℕ) (b : Bool) → is_live (journal h) s ≡ b
-      → AllByRecursion (IsDrained log s) (listed_shards (journal h) (max (clock h) at) s)
+      → AllByRecursion (IsDrained log s) (listed_shards (journal h) (max (clock h) moment) s)
   drained_by s true live =
       subst (AllByRecursion (IsDrained log s))
-      (sym (listed_whole (journal h) (max (clock h) at) s live (can.whole s live)))
+      (sym (listed_whole (journal h) (max (clock h) moment) s live (can.whole s live)))
       (all_of (IsDrained log s) (shards (journal h) s) (λ i x there. drained_at s i x live there))
   drained_by s false gone =
       subst (AllByRecursion (IsDrained log s))
-      (sym (ap (λ b. if b then listed_among (trim_floor (journal h) (max (clock h) at) s)
+      (sym (ap (λ b. if b then listed_among (trim_floor (journal h) (max (clock h) moment) s)
       (shards (journal h) s) else []) gone)) tt
 
-  -- Each listed shard of each stream is drained, at the clock of the drain.
-  all_drained : AreDrained log (max (clock h) at)
-  all_drained s = subst (AllByRecursion (IsDrained log s)) (sym (same_listed h (max (clock h) at) log is s))
+  all_drained : AreDrained log (max (clock h) moment)
+  all_drained s = subst (AllByRecursion (IsDrained log s)) (sym (same_listed h (max (clock h) moment) log is s))
       (drained_by s (is_live (journal h) s) refl)
 
--- If a machine has answered turns on leases since `h` and these turns drained the rows of all listed keys, then each
--- listed shard is drained (`HasDrained`).
-pub has_drained : (stands : List Turn → Type 0) (by at : ℕ) (h : List Turn) (among : List Row) → CanDrain h at
-    → HasLaws h (max (clock h) at)
-    → Leads stands by at h (AreDrainedTo h (listed_keys h at) among (length (listed_keys h at)))
-    → HasDrained stands by at h
-has_drained stands by at h among can laws l = record {
+pub has_drained : (stands : List Turn → Type 0) (actor moment : ℕ) (h : List Turn) (among : List Row)
+    → CanDrain h moment
+    → HasLaws h (max (clock h) moment)
+    → Leads stands actor moment h (AreDrainedTo h (listed_keys h moment) among (length (listed_keys h moment)))
+    → HasDrained stands actor moment h
+has_drained stands actor moment h among can laws l = record {
   more = l.more;
   stands_now = l.stands_now;
   are = l.are;
   drained = subst (AreDrained (journal (l.more ++ h))) (sym l.late)
-      (all_drained h at among can laws (journal (l.more ++ h))
-      (over stands by at h (AreDrainedTo h (listed_keys h at) among (length (listed_keys h at))) laws l) l.so);
+      (all_drained h moment among can laws (journal (l.more ++ h))
+      (over stands actor moment h (AreDrainedTo h (listed_keys h moment) among (length (listed_keys h moment))) laws l)
+      l.so);
 }

@@ -1,13 +1,13 @@
--- The keys of the listed shards, in order. Each is the key of a shard that was made, none is listed twice, and no shard
--- is missing. The keys of one stream's shards are in the order of the shards' numbers.
+-- The keys of the listed shards, in order of stream and shard: all are there, and none twice.
 use Rattle.std.proofs.Common.{◌≡◌, ℕ, zero, suc, ◌+◌, ◌<◌, ◌≤◌, Bool, true, false, List, [], ◌∷◌, ◌++◌, length, Some}
 use Rattle.std.proofs.Common.{refl, sym, ap, subst, ◌∙◌, arith, inl, inr}
 use Rattle.std.specs.Prelude.{◌==◌, ◌⊎◌, cond, not, slice_get, if◌then◌else◌}
 use Rattle.std.specs.List.{AllByRecursion, filter}
 use Rattle.std.proofs.lemmas.Bool.Decides.{nat_tests}
 use Rattle.std.proofs.lemmas.Bool.{and_left, and_right, cond_both}
+use Rattle.std.proofs.lemmas.Option.{same_Some}
 use Rattle.kds_base.specs.declared.lease_key.ShardRef.{ShardRef}
-use Rattle.kds_base.proofs.Facts.{equal_so, same_some}
+use Rattle.kds_base.proofs.Facts.{equal_so}
 use Rattle.kds_defs.proofs.Rising.{lower}
 use Rattle.kds_defs.specs.Journal.{Journal}
 use Rattle.kds_defs.specs.Keys.{ref, same_key}
@@ -20,31 +20,26 @@ use Rattle.kcl_drill_drain.specs.Draining.{IsWhole}
 
 -- ---- An index in two lists together
 
--- `x` is the element at the index `i` of `xs ++ ys`. Either `xs` has `x` at this index, or `ys` has `x` at the index
--- `i` minus the length of `xs`.
 Place : {A : Type 0} → List A → List A → ℕ → A → Type 0
 Place xs ys i x = ((i < length xs) × (slice_get xs i ≡ Some x))
     ⊎ ((j : ℕ) × (i ≡ length xs + j) × (slice_get ys j ≡ Some x))
 
 index_next : {A : Type 0} (y x : A) (xs ys : List A) (i : ℕ) → Place xs ys i x → Place (y ∷ xs) ys (suc i) x
 unfolding Place
-index_next y x xs ys i (inl at) = inl (omega (arith, at.0), at.1)
-index_next y x xs ys i (inr at) = inr (at.0, omega (arith, at.1), at.2)
+index_next y x xs ys i (inl is_at) = inl (omega (arith, is_at.0), is_at.1)
+index_next y x xs ys i (inr is_at) = inr (is_at.0, omega (arith, is_at.1), is_at.2)
 
--- An element of two lists together is in one of them (`Place`).
 index_in_both : {A : Type 0} (xs ys : List A) (i : ℕ) (x : A) → slice_get (xs ++ ys) i ≡ Some x → Place xs ys i x
 unfolding Place
 index_in_both [] ys i x is = inr (i, omega arith, is)
 index_in_both (y ∷ xs) ys zero x is = inl (omega arith, is)
 index_in_both (y ∷ xs) ys (suc i) x is = index_next y x xs ys i (index_in_both xs ys i x is)
 
--- An element of the first list is at the same index in both lists together.
 in_left : {A : Type 0} (xs ys : List A) (i : ℕ) (x : A) → slice_get xs i ≡ Some x → slice_get (xs ++ ys) i ≡ Some x
 in_left [] ys i x is = absurd cc
 in_left (y ∷ xs) ys zero x is = is
 in_left (y ∷ xs) ys (suc i) x is = in_left xs ys i x is
 
--- An element of the second list is in both lists together, behind the first list.
 in_right : {A : Type 0} (xs ys : List A) (j : ℕ) (x : A) → slice_get ys j ≡ Some x → (i : ℕ) × (i ≡ length xs + j)
     × (slice_get (xs ++ ys) i ≡ Some x)
 in_right [] ys j x is = (j, omega arith, is)
@@ -52,8 +47,7 @@ in_right (y ∷ xs) ys j x is = let rest = in_right xs ys j x is in (suc rest.0,
 
 -- ---- The keys of one stream's shards
 
--- The key is that of the shard at the index `i` of the list `xs`, which has shards of the stream `s`, numbered from `n`
--- on.
+-- The key of the shard at the index `i` of `xs`, the shards of the stream `s`, numbered from `n`.
 record IsRef (s n i : ℕ) (xs : List ShardState) (key : ShardRef) : Type 0 where
   stream : key.stream ≡ s
   shard : key.shard ≡ n + i
@@ -62,15 +56,14 @@ record IsRef (s n i : ℕ) (xs : List ShardState) (key : ShardRef) : Type 0 wher
 
 ref_next : (s n i : ℕ) (x : ShardState) (xs : List ShardState) (key : ShardRef) → IsRef s (n + 1) i xs key
     → IsRef s n (suc i) (x ∷ xs) key
-ref_next s n i x xs key at =
-    record { stream = at.stream; shard = omega (arith, at.shard); state = at.state; there = at.there }
+ref_next s n i x xs key is_at =
+    record { stream = is_at.stream; shard = omega (arith, is_at.shard); state = is_at.state; there = is_at.there }
 
--- The key at the index `i` of the keys of shards is that of the shard at this index (`IsRef`).
 ref_at : (s n i : ℕ) (xs : List ShardState) (key : ShardRef) → AreNumbered n xs → slice_get (refs_of s xs) i ≡ Some key
     → IsRef s n i xs key
 ref_at s n i [] key numbers is = absurd cc
 ref_at s n zero (x ∷ xs) key numbers is =
-    let e = same_some (ref s x.no) key is in
+    let e = same_Some (ref s x.no) key is in
     record {
       stream = ap (λ (k : ShardRef). k.stream) (sym e);
       shard = plus key.shard (ap (λ (k : ShardRef). k.shard) (sym e) ∙ numbers.0);
@@ -82,7 +75,6 @@ ref_at s n zero (x ∷ xs) key numbers is =
     plus m is = omega arith
 ref_at s n (suc i) (x ∷ xs) key numbers is = ref_next s n i x xs key (ref_at s (n + 1) i xs key numbers.1 is)
 
--- The shard at the index `i` has its key at the same index of the keys.
 at_ref : (s n i : ℕ) (xs : List ShardState) (x : ShardState) → AreNumbered n xs → slice_get xs i ≡ Some x
     → slice_get (refs_of s xs) i ≡ Some (ref s (n + i))
 at_ref s n i [] x numbers is = absurd cc
@@ -90,7 +82,6 @@ at_ref s n zero (y ∷ xs) x numbers is = let e : y.no ≡ n + 0 = omega (arith,
 at_ref s n (suc i) (y ∷ xs) x numbers is = let e : n + 1 + i ≡ n + suc i = omega arith in
     at_ref s (n + 1) i xs x numbers.1 is ∙ ap (λ m. Some (ref s m)) e
 
--- If a list has an element at an index, it has one at each lower index.
 below_there : (p i : ℕ) (xs : List ShardState) (x : ShardState) → p < i → slice_get xs i ≡ Some x → (y : ShardState)
     × (slice_get xs p ≡ Some y)
 below_there p i [] x below is = absurd cc
@@ -109,7 +100,6 @@ keys_in log (s ∷ ss) = refs_of s (shards log s) ++ keys_in log ss
 abbrev pub AreLive : Journal → List ℕ → Type 0
 AreLive log ss = AllByRecursion (λ s. is_live log s ≡ true) ss
 
--- If none of the shards was closed before the trim floor, all of them are listed.
 all_listed : (floor : ℕ) (xs : List ShardState)
     → AllByRecursion (λ (x : ShardState). is_closed_below floor x ≡ false) xs → listed_among floor xs ≡ xs
 all_listed floor [] are = refl
@@ -117,14 +107,13 @@ all_listed floor (x ∷ xs) are =
     ap (λ b. cond (not b) (x ∷ listed_among floor xs) (listed_among floor xs)) are.0
     ∙ ap (λ ys. x ∷ ys) (all_listed floor xs are.1)
 
--- If `IsWhole` holds for a live stream, all shards of this stream are listed.
 pub listed_whole : (log : Journal) (c s : ℕ) → is_live log s ≡ true → IsWhole log c s
     → listed_shards log c s ≡ shards log s
 listed_whole log c s live whole =
     ap (λ b. if b then listed_among (trim_floor log c s) (shards log s) else []) live
     ∙ all_listed (trim_floor log c s) (shards log s) whole.listed
 
--- If `IsWhole` holds for each live stream, the listed keys of the live streams `ss` are the keys of all their shards.
+-- If no stream has lost records or shards (`IsWhole`), the listed keys are the keys of all shards.
 pub keys_same : (log : Journal) (c : ℕ) (ss : List ℕ) → ((s : ℕ) → is_live log s ≡ true → IsWhole log c s)
     → AreLive log ss → listed_in log c ss ≡ keys_in log ss
 keys_same log c [] whole live = refl
@@ -132,14 +121,12 @@ keys_same log c (s ∷ ss) whole live =
     ap (λ xs. refs_of s xs ++ listed_in log c ss) (listed_whole log c s live.0 (whole s live.0))
     ∙ ap (λ ks. refs_of s (shards log s) ++ ks) (keys_same log c ss whole live.1)
 
--- Each number that `filter` keeps passes the test `p`.
 pub filtered : (p : ℕ → Bool) (ns : List ℕ) → AllByRecursion (λ n. p n ≡ true) (filter p ns)
 filtered p [] = tt
 filtered p (n ∷ ns) =
     let rest = filtered p ns in
     cond_both (p n) (n ∷ filter p ns) (filter p ns) (AllByRecursion (λ m. p m ≡ true)) (λ is. (is, rest)) (λ not. rest)
 
--- Of `count` consecutive numbers from `n` on, those that pass the test `p` rise.
 pub up_numbers : (p : ℕ → Bool) (n count : ℕ) → RiseFrom n (filter p (numbers_from n count))
 up_numbers p n zero = tt
 up_numbers p n (suc count) =
@@ -149,7 +136,7 @@ up_numbers p n (suc count) =
 
 -- ---- One key among the listed ones
 
--- The key is that of a shard of a live stream.
+-- The key belongs to a shard of a live stream.
 pub record IsKeyOf (log : Journal) (key : ShardRef) : Type 0 where
   pub live : is_live log key.stream ≡ true
   pub state : ShardState
@@ -157,15 +144,14 @@ pub record IsKeyOf (log : Journal) (key : ShardRef) : Type 0 where
 
 module _ (log : Journal) (numbered : (s : ℕ) → AreNumbered 0 (shards log s)) where
   of_ref : (s i : ℕ) (key : ShardRef) → is_live log s ≡ true → IsRef s 0 i (shards log s) key → IsKeyOf log key
-  of_ref s i key live at =
-      let i_is : key.shard ≡ i = omega (arith, at.shard) in
+  of_ref s i key live is_at =
+      let i_is : key.shard ≡ i = omega (arith, is_at.shard) in
       record {
-        live = ap (is_live log) at.stream ∙ live;
-        state = at.state;
-        there = ap (λ t. shard_at log t key.shard) at.stream ∙ ap (shard_at log s) i_is ∙ at.there;
+        live = ap (is_live log) is_at.stream ∙ live;
+        state = is_at.state;
+        there = ap (λ t. shard_at log t key.shard) is_at.stream ∙ ap (shard_at log s) i_is ∙ is_at.there;
       }
 
-  -- Each of the keys of the live streams `ss` is that of a shard of a live stream (`IsKeyOf`).
   pub key_of_streams : (ss : List ℕ) (i : ℕ) (key : ShardRef) → AreLive log ss → slice_get (keys_in log ss) i ≡ Some key
       → IsKeyOf log key
   unfolding Place
@@ -176,10 +162,9 @@ module _ (log : Journal) (numbered : (s : ℕ) → AreNumbered 0 (shards log s))
     where
       either : ((j : ℕ) → slice_get (keys_in log ss) j ≡ Some key → IsKeyOf log key)
           → Place (refs_of s (shards log s)) (keys_in log ss) i key → IsKeyOf log key
-      either later (inl at) = of_ref s i key live.0 (ref_at s 0 i (shards log s) key (numbered s) at.1)
-      either later (inr at) = later at.0 at.2
+      either later (inl is_at) = of_ref s i key live.0 (ref_at s 0 i (shards log s) key (numbered s) is_at.1)
+      either later (inr is_at) = later is_at.0 is_at.2
 
-  -- If the numbers of the streams rise from `n` on, each key has a stream with a number of at least `n`.
   from_streams : (ss : List ℕ) (n i : ℕ) (key : ShardRef) → RiseFrom n ss → slice_get (keys_in log ss) i ≡ Some key
       → n ≤ key.stream
   unfolding Place
@@ -190,12 +175,11 @@ module _ (log : Journal) (numbered : (s : ℕ) → AreNumbered 0 (shards log s))
     where
       either : n ≤ s → ((j : ℕ) → slice_get (keys_in log ss) j ≡ Some key → s + 1 ≤ key.stream)
           → Place (refs_of s (shards log s)) (keys_in log ss) i key → n ≤ key.stream
-      either le later (inl at) = let e = (ref_at s 0 i (shards log s) key (numbered s) at.1).stream in
+      either le later (inl is_at) = let e = (ref_at s 0 i (shards log s) key (numbered s) is_at.1).stream in
           omega arith
-      either le later (inr at) = let m = later at.0 at.2 in omega arith
+      either le later (inr is_at) = let m = later is_at.0 is_at.2 in omega arith
 
-  -- Let `key` be at the index `i`, and let `p` be below the number of its shard. Then the key of the shard `p` of the
-  -- same stream stands before the index `i`.
+  -- The keys of older shards of the same stream stand before the index `i`.
   pub older_in : (ss : List ℕ) (i p : ℕ) (key : ShardRef) → p < key.shard → slice_get (keys_in log ss) i ≡ Some key
       → (j : ℕ) × (j < i) × (slice_get (keys_in log ss) j ≡ Some (ref key.stream p))
   unfolding Place
@@ -208,8 +192,8 @@ module _ (log : Journal) (numbered : (s : ℕ) → AreNumbered 0 (shards log s))
           × (slice_get (keys_in log ss) j ≡ Some (ref key.stream p)))
           → Place (refs_of s (shards log s)) (keys_in log ss) i key → (j : ℕ) × (j < i)
           × (slice_get (keys_in log (s ∷ ss)) j ≡ Some (ref key.stream p))
-      either later (inl at) =
-          let r = ref_at s 0 i (shards log s) key (numbered s) at.1 in
+      either later (inl is_at) =
+          let r = ref_at s 0 i (shards log s) key (numbered s) is_at.1 in
           let below' : p < i = omega (arith, below, r.shard) in
           let y = below_there p i (shards log s) r.state below' r.there in
           let e : 0 + p ≡ p = omega arith in
@@ -219,12 +203,12 @@ module _ (log : Journal) (numbered : (s : ℕ) → AreNumbered 0 (shards log s))
             in_left (refs_of s (shards log s)) (keys_in log ss) p (ref s p) at_p
                 ∙ ap (λ t. Some (ref t p)) (sym r.stream),
           )
-      either later (inr at) =
-          let rest = later at.0 at.2 in
+      either later (inr is_at) =
+          let rest = later is_at.0 is_at.2 in
           let here = in_right (refs_of s (shards log s)) (keys_in log ss) rest.0 (ref key.stream p) rest.2 in
-          (here.0, omega (arith, here.1, at.1, rest.1), here.2)
+          (here.0, omega (arith, here.1, is_at.1, rest.1), here.2)
 
-  -- Two keys at different indexes are different.
+  -- Keys at different indexes differ.
   pub unlike_in : (ss : List ℕ) (n i j : ℕ) (a b : ShardRef) → RiseFrom n ss → i < j
       → slice_get (keys_in log ss) i ≡ Some a
       → slice_get (keys_in log ss) j ≡ Some b → (same_key a b ≡ false) × (same_key b a ≡ false)
@@ -247,29 +231,28 @@ module _ (log : Journal) (numbered : (s : ℕ) → AreNumbered 0 (shards log s))
           → ((q : ℕ) → slice_get (keys_in log ss) q ≡ Some b → s + 1 ≤ b.stream)
           → Place (refs_of s (shards log s)) (keys_in log ss) i a
           → Place (refs_of s (shards log s)) (keys_in log ss) j b → (same_key a b ≡ false) × (same_key b a ≡ false)
-      either later high (inl at) (inl at') =
-          let e = other_shard i j a.shard b.shard (ref_at s 0 i (shards log s) a (numbered s) at.1).shard
-          (ref_at s 0 j (shards log s) b (numbered s) at'.1).shard below in (
+      either later high (inl is_at) (inl is_at') =
+          let e = other_shard i j a.shard b.shard (ref_at s 0 i (shards log s) a (numbered s) is_at.1).shard
+          (ref_at s 0 j (shards log s) b (numbered s) is_at'.1).shard below in (
             and_right (a.stream == b.stream) (a.shard == b.shard) e.0,
             and_right (b.stream == a.stream) (b.shard == a.shard) e.1,
           )
-      either later high (inl at) (inr at') =
-          let e = other_stream a.stream b.stream (ref_at s 0 i (shards log s) a (numbered s) at.1).stream
-          (high at'.0 at'.2) in (
+      either later high (inl is_at) (inr is_at') =
+          let e = other_stream a.stream b.stream (ref_at s 0 i (shards log s) a (numbered s) is_at.1).stream
+          (high is_at'.0 is_at'.2) in (
             and_left (a.stream == b.stream) (a.shard == b.shard) e.0,
             and_left (b.stream == a.stream) (b.shard == a.shard) e.1,
           )
-      either later high (inr at) (inl at') = absurd (omega (arith, at.1, at'.0, below))
-      either later high (inr at) (inr at') = later at.0 at'.0 (omega (arith, at.1, at'.1, below)) at.2 at'.2
+      either later high (inr is_at) (inl is_at') = absurd (omega (arith, is_at.1, is_at'.0, below))
+      either later high (inr is_at) (inr is_at') =
+          later is_at.0 is_at'.0 (omega (arith, is_at.1, is_at'.1, below)) is_at.2 is_at'.2
 
   -- ---- No shard is missing from the list
 
-  -- The number `s` is one of the numbers `ss`.
   pub IsIn : ℕ → List ℕ → Type 0
   IsIn s [] = ⊥
   IsIn s (t ∷ ss) = (t ≡ s) ⊎ IsIn s ss
 
-  -- The key of each shard of one of the streams `ss` is in the list.
   pub all_in : (ss : List ℕ) (s sh : ℕ) (x : ShardState) → IsIn s ss → slice_get (shards log s) sh ≡ Some x
       → (j : ℕ) × (slice_get (keys_in log ss) j ≡ Some (ref s sh))
   unfolding IsIn
@@ -287,7 +270,6 @@ module _ (log : Journal) (numbered : (s : ℕ) → AreNumbered 0 (shards log s))
       let here = in_right (refs_of t (shards log t)) (keys_in log ss) rest.0 (ref s sh) rest.1 in
       (here.0, here.2)
 
-  -- A live stream whose number is at least `n` and below `n` + `count` is among the live streams with such numbers.
   pub in_numbers : (n count s : ℕ) → is_live log s ≡ true → n ≤ s → s < n + count
       → IsIn s (filter (is_live log) (numbers_from n count))
   unfolding IsIn

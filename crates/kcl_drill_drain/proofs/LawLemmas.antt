@@ -1,5 +1,4 @@
--- Facts about legal journals that a drain relies on: from which checkpoints a shard can be drained, and which numbers
--- streams have.
+-- Facts about legal journals for a drain: from which checkpoints a shard can be drained, and streams' numbers.
 use Rattle.std.proofs.Common.{◌≡◌, ℕ, ◌+◌, ◌≤◌, Bool, true, false, [], ◌∷◌, Some, refl, subst, arith}
 use Rattle.std.specs.Prelude.{◌==◌, ◌||◌, not}
 use Rattle.kds_base.specs.declared.lease_key.Checkpoint.{Checkpoint}
@@ -22,30 +21,27 @@ use Rattle.kcl_laws.specs.Recorded.{HasFrom}
 use Rattle.kds_defs.specs.Shards.{start_of}
 use Rattle.kcl_laws.proofs.Trims.{made_number}
 
--- If a row of a legal journal has the checkpoint SHARD_END, its shard is closed.
 pub ended_closed : (log : Journal) → IsLegal log → (c : ℕ) → last_clock log ≤ c → (key : ShardRef) (r : Row)
     → row log key ≡ Some r → r.checkpoint ≡ ShardEnd → is_closed_at (shard_of log key) ≡ true
 ended_closed log legal c le key r there is =
     (subst (CheckpointOk log c key r.floor) is ((all_ok log legal c le).rows key r there).covered).0
 
--- Suppose that a row's floor is the shard's start. If the checkpoint is at `q`, let a record have the number `q` or a
--- greater one. If the checkpoint is SHARD_END, let the shard be closed. Then the shard can be drained from this
--- checkpoint (`IsStart`).
-pub starts : (log : Journal) (key : ShardRef) (floor : ℕ) (at : Checkpoint) → floor ≡ start_of (shard_of log key)
-    → ((q : ℕ) → at ≡ At q → HasFrom q (records_of log key)) → (at ≡ ShardEnd → is_closed_at (shard_of log key) ≡ true)
-    → IsStart (shard_of log key) (records_of log key) floor at
+pub starts : (log : Journal) (key : ShardRef) (floor : ℕ) (checkpoint : Checkpoint)
+    → floor ≡ start_of (shard_of log key)
+    → ((q : ℕ) → checkpoint ≡ At q → HasFrom q (records_of log key))
+    → (checkpoint ≡ ShardEnd → is_closed_at (shard_of log key) ≡ true)
+    → IsStart (shard_of log key) (records_of log key) floor checkpoint
 starts log key floor TrimHorizon first reached ended = first
 starts log key floor (At q) first reached ended = reached q refl
 starts log key floor ShardEnd first reached ended = ended refl
 
 -- ---- The streams are numbered from 1 on
 
--- An entry that is accepted keeps the numbers of live streams between 1 and the number of streams that were made.
 live_by : (log : Journal) (line : Line) (e : Entry) (reply : Reply) (s : ℕ) → line.what ≡ e
     → told log line e ≡ Accepted (line ∷ []) reply → (is_live log s ≡ true → (1 ≤ s) × (s ≤ made_count log))
     → is_live_after e s (is_live log s) ≡ true → (1 ≤ s) × (s ≤ made_count_after e (made_count log))
-live_by log line (entry.Made stream name count) reply s is h before live =
-    either (stream == s) (is_live log s) refl live before
+live_by log line (entry.Made stream name count) reply s is h is_before live =
+    either (stream == s) (is_live log s) refl live is_before
   where
     either : (b d : Bool) → (stream == s) ≡ b → (b || d) ≡ true → (d ≡ true → (1 ≤ s) × (s ≤ made_count log))
         → (1 ≤ s) × (s ≤ made_count log + 1)
@@ -54,11 +50,10 @@ live_by log line (entry.Made stream name count) reply s is h before live =
         let made = made_number log line stream count name reply is h in
         (omega arith, omega arith)
     either false d e m k = let b = k m in (b.0, omega (arith, b.1))
-live_by log line (entry.Gone stream) reply s is h before live =
-    before (both_right (not (stream == s)) (is_live log s) live)
-live_by log line _ reply s is h before live = before live
+live_by log line (entry.Gone stream) reply s is h is_before live =
+    is_before (both_right (not (stream == s)) (is_live log s) live)
+live_by log line _ reply s is h is_before live = is_before live
 
--- In a legal journal, a live stream has a number between 1 and the number of streams that were made.
 pub live_numbers : (log : Journal) → IsLegal log → (s : ℕ) → is_live log s ≡ true → (1 ≤ s) × (s ≤ made_count log)
 live_numbers [] legal s live = absurd cc
 live_numbers (line ∷ log) legal s live =

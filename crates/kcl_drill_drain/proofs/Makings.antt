@@ -1,4 +1,4 @@
--- The first part of a drain: for each of the listed keys that has no row, a row is made.
+-- The first part of a drain: each listed key without a row gets one.
 use Rattle.std.proofs.Common.{◌≡◌, ℕ, ◌+◌, ◌<◌, ◌^◌, Bool, true, false, List, [], ◌∷◌, ◌++◌, length, Option}
 use Rattle.std.proofs.Common.{Some, None, refl, sym, ap, subst, ◌∙◌, arith, inl, inr}
 use Rattle.std.specs.Prelude.{◌⊎◌, is_some, not, slice_get, if◌then◌else◌, Result}
@@ -35,7 +35,7 @@ use Rattle.kcl_drill_drain.proofs.Spots.{listed, same_here, up_to}
 
 -- ---- Before and after the making of rows
 
--- Right after the history before the drain, `AreMade` holds for the first 0 keys, where the survey shows all rows.
+-- No row was made yet, and the survey shows all rows.
 pub made_first : (h : List Turn) (keys : List ShardRef) (c : ℕ) → HasLaws h c
     → AreMade h keys (rows (journal h)) 0 (journal h)
 made_first h keys c laws = record {
@@ -45,8 +45,7 @@ made_first h keys c laws = record {
   few = laws.tenures;
 }
 
--- Once all listed keys have rows, each row waits to be drained, and none is drained yet. The rows of a new survey are
--- all rows of the journal.
+-- Once all listed keys have rows, each row waits to be drained, as a new survey shows it.
 pub all_wait : (h : List Turn) (keys : List ShardRef) (among : List Row) (log : Journal)
     → AreMade h keys among (length keys) log → AreDrainedTo h keys (rows log) 0 log
 all_wait h keys among log made = record {
@@ -59,20 +58,17 @@ all_wait h keys among log made = record {
 
 -- ---- The row of one key
 
-module _ (w : Spot) (at : ℕ) (spot : IsSpot w at) (laws : HasLaws w.history (clock_at w at)) where
-  -- If a new row is asked to have the origin TRIM_HORIZON, it gets this origin.
+module _ (w : Spot) (moment : ℕ) (spot : IsSpot w moment) (laws : HasLaws w.history (clock_at w moment)) where
   origin_is : (log : Journal) (key : ShardRef) → counting_origin log key origin.TrimHorizon ≡ origin.TrimHorizon
   origin_is log key = counts_so log key origin.TrimHorizon refl
 
-  -- If the keys before this one and this key have rows, each key up to this one has a row.
   made_by : (log : Journal) → ((j : ℕ) (key : ShardRef) → j < w.index → slice_get w.keys j ≡ Some key → HasRow log key)
       → HasRow log w.key → (j : ℕ) (key : ShardRef) → slice_get w.keys j ≡ Some key → (j < w.index) ⊎ (j ≡ w.index)
       → HasRow log key
-  made_by log before here j key is (inl below) = before j key below is
-  made_by log before here j key is (inr same) = subst (HasRow log) (sym (same_here w at spot laws j key same is)) here
+  made_by log is_before here j key is (inl below) = is_before j key below is
+  made_by log is_before here j key is (inr same) =
+      subst (HasRow log) (sym (same_here w moment spot laws j key same is)) here
 
-  -- If the rows of the keys before this one are made, and this key has a row, then the rows of the keys up to this one
-  -- are made.
   pub one_made : (log : Journal) → AreMade w.history w.keys w.among w.index log → HasRow log w.key
       → AreMade w.history w.keys w.among (w.index + 1) log
   one_made log made here = record {
@@ -82,92 +78,85 @@ module _ (w : Spot) (at : ℕ) (spot : IsSpot w at) (laws : HasLaws w.history (c
     few = made.few;
   }
 
-  -- If a key had a row before a row is added, it has one afterwards. `b` says whether the new row `x` is the row of
-  -- this key.
   has_row : (b : Bool) (x : Row) (o : Option Row) → (r : Row) → o ≡ Some r
       → (s : Row) × ((if b then Some x else o) ≡ Some s)
   has_row true x o r is = (x, refl)
   has_row false x o r is = (r, is)
 
-  -- Suppose that the row `x` that is added is as a row can be before its drain (`IsFresh`), and so is a key's row
-  -- before. Then so is the key's row afterwards.
   fresh_by : (b : Bool) (x : Row) (key : ShardRef) (o : Option Row) → IsFresh w.history key x
       → ((r : Row) → o ≡ Some r → IsFresh w.history key r) → (r : Row) → (if b then Some x else o) ≡ Some r
       → IsFresh w.history key r
   fresh_by true x key o new old r is = let e : x ≡ r = cc in subst (IsFresh w.history key) e new
   fresh_by false x key o new old r is = old r is
 
-  -- The line that makes the row of the key with the origin TRIM_HORIZON.
   new_line : ℕ → ℕ → Line
-  new_line c by = plain_line c by (entry.LeaseMade w.key origin.TrimHorizon)
+  new_line c actor = plain_line c actor (entry.LeaseMade w.key origin.TrimHorizon)
 
-  -- The line that makes the row of the key keeps what was made before (`AreMade`).
-  with_new : (log : Journal) (by : ℕ) → IsOver w.history (clock_at w at) log
+  with_new : (log : Journal) (actor : ℕ) → IsOver w.history (clock_at w moment) log
       → AreMade w.history w.keys w.among w.index log
-      → AreMade w.history w.keys w.among w.index (new_line (clock_at w at) by ∷ log)
+      → AreMade w.history w.keys w.among w.index (new_line (clock_at w moment) actor ∷ log)
   unfolding new_line
-  with_new log by is made = record {
-    fresh = λ key r there. fresh_by (same_key w.key key) (made_row log (clock_at w at) key origin.TrimHorizon) key
+  with_new log actor is made = record {
+    fresh = λ key r there. fresh_by (same_key w.key key) (made_row log (clock_at w moment) key origin.TrimHorizon) key
         (row log key)
         (record {
           few = omega arith;
-          start = ap start_of (same_shard w.history (clock_at w at) log is key.stream key.shard);
+          start = ap start_of (same_shard w.history (clock_at w moment) log is key.stream key.shard);
         })
         (made.fresh key) r there;
     kept = λ key r seen. let f = made.kept key r seen in
-        has_row (same_key w.key key) (made_row log (clock_at w at) key origin.TrimHorizon) (row log key) f.0 f.1;
+        has_row (same_key w.key key) (made_row log (clock_at w moment) key origin.TrimHorizon) (row log key) f.0 f.1;
     made = λ j key below at_j. let f = made.made j key below at_j in
-        has_row (same_key w.key key) (made_row log (clock_at w at) key origin.TrimHorizon) (row log key) f.0 f.1;
+        has_row (same_key w.key key) (made_row log (clock_at w moment) key origin.TrimHorizon) (row log key) f.0 f.1;
     few = made.few;
   }
 
-  -- After the line that makes the row of the key, the key has a row.
-  new_row_there : (log : Journal) (by : ℕ) → HasRow (new_line (clock_at w at) by ∷ log) w.key
+  new_row_there : (log : Journal) (actor : ℕ) → HasRow (new_line (clock_at w moment) actor ∷ log) w.key
   unfolding new_line
-  new_row_there log by =
-      let new = made_row log (clock_at w at) w.key origin.TrimHorizon in
+  new_row_there log actor =
+      let new = made_row log (clock_at w moment) w.key origin.TrimHorizon in
       (new, ap (λ b. if b then Some new else row log w.key) (key_itself w.key))
 
-  -- The lemma `makes`, where the row of the key before the command is named `o`.
-  made_led : (stands stands' : List Turn → Type 0) (by : ℕ) (a : Result Reply Refusal) (o : Option Row) → at < 2 ^ 62
-      → (l : Leads stands by at w.history (AreMade w.history w.keys w.among w.index))
+  made_led : (stands stands' : List Turn → Type 0) (actor : ℕ) (a : Result Reply Refusal) (o : Option Row)
+      → moment < 2 ^ 62
+      → (l : Leads stands actor moment w.history (AreMade w.history w.keys w.among w.index))
       → row (journal (l.more ++ w.history)) w.key ≡ o
-      → Answered stands stands' (turn_of by at (command.MakeLease w.key origin.TrimHorizon)) a
-      → Leads stands' by at w.history (AreMade w.history w.keys w.among (w.index + 1))
+      → Answered stands stands' (turn_of actor moment (command.MakeLease w.key origin.TrimHorizon)) a
+      → Leads stands' actor moment w.history (AreMade w.history w.keys w.among (w.index + 1))
   unfolding new_line
-  made_led stands stands' by a None below l is answers =
+  made_led stands stands' actor a None below l is answers =
       let now = journal (l.more ++ w.history) in
-      let c = clock_at w at in
-      let there = over stands by at w.history (AreMade w.history w.keys w.among w.index) laws l in
-      let decided : make_lease now c by w.key origin.TrimHorizon
-      ≡ Accepted (new_line c by ∷ []) (reply.Leased origin.TrimHorizon) =
-      passed_if refusal.ShardGone (not (is_listed_key now c w.key)) _ (ap not (listed w at spot laws now there))
+      let c = clock_at w moment in
+      let there = over stands actor moment w.history (AreMade w.history w.keys w.among w.index) laws l in
+      let decided : make_lease now c actor w.key origin.TrimHorizon
+      ≡ Accepted (new_line c actor ∷ []) (reply.Leased origin.TrimHorizon) =
+      passed_if refusal.ShardGone (not (is_listed_key now c w.key)) _ (ap not (listed w moment spot laws now there))
       ∙ passed_if refusal.LeaseThere (is_some (row now w.key)) _ (ap is_some is)
-      ∙ ap (λ o. Accepted (plain_line c by (entry.LeaseMade w.key o) ∷ []) (reply.Leased o)) (origin_is now w.key) in
-      (led stands stands' by at w.history (command.MakeLease w.key origin.TrimHorizon) a
+      ∙ ap (λ o. Accepted (plain_line c actor (entry.LeaseMade w.key o) ∷ []) (reply.Leased o)) (origin_is now w.key) in
+      (led stands stands' actor moment w.history (command.MakeLease w.key origin.TrimHorizon) a
       (AreMade w.history w.keys w.among w.index) (AreMade w.history w.keys w.among (w.index + 1))
-      (Accepted (new_line c by ∷ []) (reply.Leased origin.TrimHorizon)) refl (below, tt) answers l decided
-      (one_made (new_line c by ∷ now) (with_new now by there l.so) (new_row_there now by))).1
-  made_led stands stands' by a (Some r) below l is answers =
+      (Accepted (new_line c actor ∷ []) (reply.Leased origin.TrimHorizon)) refl (below, tt) answers l decided
+      (one_made (new_line c actor ∷ now) (with_new now actor there l.so) (new_row_there now actor))).1
+  made_led stands stands' actor a (Some r) below l is answers =
       let now = journal (l.more ++ w.history) in
-      let c = clock_at w at in
-      let there = over stands by at w.history (AreMade w.history w.keys w.among w.index) laws l in
-      let decided : make_lease now c by w.key origin.TrimHorizon ≡ Refused refusal.LeaseThere =
-      passed_if refusal.ShardGone (not (is_listed_key now c w.key)) _ (ap not (listed w at spot laws now there))
+      let c = clock_at w moment in
+      let there = over stands actor moment w.history (AreMade w.history w.keys w.among w.index) laws l in
+      let decided : make_lease now c actor w.key origin.TrimHorizon ≡ Refused refusal.LeaseThere =
+      passed_if refusal.ShardGone (not (is_listed_key now c w.key)) _ (ap not (listed w moment spot laws now there))
       ∙ refused_if refusal.LeaseThere (is_some (row now w.key)) _ (ap is_some is) in
-      (led stands stands' by at w.history (command.MakeLease w.key origin.TrimHorizon) a
+      (led stands stands' actor moment w.history (command.MakeLease w.key origin.TrimHorizon) a
       (AreMade w.history w.keys w.among w.index) (AreMade w.history w.keys w.among (w.index + 1))
       (Refused refusal.LeaseThere) refl (below, tt) answers l decided
       (one_made now l.so (r, is))).1
 
-  -- After the command that makes the row of the key, the rows of the keys up to this one are made. It doesn't matter
-  -- whether the key had a row before.
-  pub makes : (stands stands' : List Turn → Type 0) (by : ℕ) (key : ShardRef) (a : Result Reply Refusal) → at < 2 ^ 62
+  -- The command MakeLease makes a row for the key, whether or not it had one before.
+  pub makes : (stands stands' : List Turn → Type 0) (actor : ℕ) (key : ShardRef) (a : Result Reply Refusal)
+      → moment < 2 ^ 62
       → w.key ≡ key
-      → (l : Leads stands by at w.history (AreMade w.history w.keys w.among w.index))
-      → Answered stands stands' (turn_of by at (command.MakeLease key origin.TrimHorizon)) a
-      → Leads stands' by at w.history (AreMade w.history w.keys w.among (w.index + 1))
-  makes stands stands' by key a below same l answers =
-      made_led stands stands' by a (row (journal (l.more ++ w.history)) w.key) below l refl
-      (subst (λ k. Answered stands stands' (turn_of by at (command.MakeLease k origin.TrimHorizon)) a) (sym same)
+      → (l : Leads stands actor moment w.history (AreMade w.history w.keys w.among w.index))
+      → Answered stands stands' (turn_of actor moment (command.MakeLease key origin.TrimHorizon)) a
+      → Leads stands' actor moment w.history (AreMade w.history w.keys w.among (w.index + 1))
+  makes stands stands' actor key a below same l answers =
+      made_led stands stands' actor a (row (journal (l.more ++ w.history)) w.key) below l refl
+      (subst (λ k. Answered stands stands' (turn_of actor moment (command.MakeLease k origin.TrimHorizon)) a) (sym same)
       answers)

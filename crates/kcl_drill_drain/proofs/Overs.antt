@@ -1,5 +1,4 @@
--- After turns on leases, what the journal `log` says of shards and records is what the journal of the history `h`
--- before these turns says. `c` is the clock, which is the same for both.
+-- Turns on leases change nothing that the journal says of shards and records (`log` after them, `h` before).
 use Rattle.std.proofs.Common.{◌≡◌, ℕ, true, false, List, [], ◌∷◌, ◌++◌, Some, refl, ap, ◌∙◌}
 use Rattle.std.specs.Prelude.{◌&&◌, ◌||◌, not, slice_get, if◌then◌else◌}
 use Rattle.kds_base.specs.declared.lease_key.ShardRef.{ShardRef}
@@ -16,11 +15,9 @@ use Rattle.kds_defs.specs.Streams.{is_live, live_streams, trim_floor}
 use Rattle.kcl_drill_drain.proofs.Leading.{IsOver}
 
 module _ (h : List Turn) (c : ℕ) (log : Journal) (is : IsOver h c log) where
-  -- A shard is the same after the turns on leases as before them.
   pub same_shard : (s sh : ℕ) → shard_at log s sh ≡ shard_at (journal h) s sh
   same_shard s sh = ap (λ xs. slice_get xs sh) (is.streams.shards s)
 
-  -- The records of a shard that are left from a position on are the same before and after the turns on leases.
   pub same_left : (s sh p : ℕ) → left_from log c s sh p ≡ left_from (journal h) c s sh p
   same_left s sh p =
       ap (λ b. if b then left_among (trim_floor log c s) p (records log s sh) else []) (is.floors.live s)
@@ -28,17 +25,14 @@ module _ (h : List Turn) (c : ℕ) (log : Journal) (is : IsOver h c log) where
       ∙ ap (λ rs. if is_live (journal h) s then left_among (trim_floor (journal h) c s) p rs else [])
       (is.streams.records s sh)
 
-  -- The batch of a read at a position is the same before and after the turns on leases.
   pub same_batch : (s sh p limit : ℕ) → batch log c s sh p limit ≡ batch (journal h) c s sh p limit
   same_batch s sh p limit = ap (beginning limit BATCH_BYTES) (same_left s sh p)
 
-  -- The reading of a shard ends at a position exactly if it did before the turns on leases.
   pub same_ends : (s sh p : ℕ) → ends_at log c s sh p ≡ ends_at (journal h) c s sh p
   same_ends s sh p =
       ap (λ o. is_closed_at o && are_none (left_from log c s sh p)) (same_shard s sh)
       ∙ ap (λ rs. is_closed_at (shard_at (journal h) s sh) && are_none rs) (same_left s sh p)
 
-  -- The listed shards of a stream are the same before and after the turns on leases.
   pub same_listed : (s : ℕ) → listed_shards log c s ≡ listed_shards (journal h) c s
   same_listed s =
       ap (λ b. if b then listed_among (trim_floor log c s) (shards log s) else []) (is.floors.live s)
@@ -52,11 +46,9 @@ module _ (h : List Turn) (c : ℕ) (log : Journal) (is : IsOver h c log) where
       ap (λ xs. refs_of s xs ++ listed_in log c ss) (same_listed s)
       ∙ ap (λ ks. refs_of s (listed_shards (journal h) c s) ++ ks) (listed_same ss)
 
-  -- The listed keys of all live streams are the same before and after the turns on leases.
   pub same_keys : listed_in log c (live_streams log) ≡ listed_in (journal h) c (live_streams (journal h))
   same_keys = listed_same (live_streams log) ∙ ap (listed_in (journal h) c) is.streams.live
 
-  -- If a shard of a live stream wasn't closed before the trim floor, the shard is listed after the turns on leases.
   pub is_listed_now : (key : ShardRef) (x : ShardState) → is_live (journal h) key.stream ≡ true
       → shard_at (journal h) key.stream key.shard ≡ Some x → is_closed_below (trim_floor (journal h) c key.stream) x
       ≡ false → is_listed_key log c key ≡ true

@@ -1,14 +1,13 @@
--- A tenure that drains its shard reads a batch, gives this batch and marks the batch's last record, and so on until the
--- shard is read to its end. Each lemma is about one of these commands, or about what follows from the command's answer.
--- `stands` and `stands'` say which histories the machine stands for before and after the command.
+-- A tenure that drains its shard: one lemma for each read, give and mark, and for what follows from the answer.
 use Rattle.std.proofs.Common.{◌≡◌, ℕ, ◌+◌, ◌-◌, ◌*◌, ◌<◌, ◌≤◌, ◌^◌, max, Bool, true, false, List, [], ◌∷◌, ◌++◌, length}
 use Rattle.std.proofs.Common.{map, Option, Some, None, refl, sym, ap, subst, ◌∙◌, arith}
 use Rattle.std.specs.Prelude.{◌==◌, ◌&&◌, nat_le, nat_lt, if◌then◌else◌, Result, Ok, Err, IfOk}
 use Rattle.std.specs.Option.{option_map}
 use Rattle.std.proofs.lemmas.Bool.Decides.{nat_tests}
+use Rattle.std.proofs.lemmas.Option.{same_Some}
 use Rattle.kds_base.specs.declared.lease_key.Checkpoint.TheVariants.{ShardEnd}
 use Rattle.kds_base.specs.declared.lease_key.ShardRef.{ShardRef}
-use Rattle.kds_base.proofs.Facts.{apart, both_left, same_some}
+use Rattle.kds_base.proofs.Facts.{apart, both_left}
 use Rattle.kds_defs.specs.declared.command.Command.TheVariants as command
 use Rattle.kds_defs.specs.declared.command.Target.{Target}
 use Rattle.kds_defs.specs.declared.command.Target.TheVariants as target
@@ -51,39 +50,36 @@ use Rattle.kcl_drill_drain.proofs.Settling.{batched, last_seq}
 use Rattle.kcl_drill_drain.proofs.Spots.{listed, one_more, others_stay}
 use Rattle.kcl_drill_drain.proofs.Beginning.{left_is, not_last, up}
 
--- The first of six laws that the lemmas take as given: if fewer than `PENDING_READS` reads wait to be given and the
--- shard is listed, the decision on a Read at the tenure's position is `read_here`.
+-- The law, taken as given, that a Read at the tenure's position is decided as `read_here`.
 abbrev pub ReadLaw : Type 0
 ReadLaw = (log : Journal) (c limit : ℕ) (x : Holding) → Holds log x → length x.waiting < PENDING_READS
     → is_listed_key log c x.key ≡ true → read log c x.by x.tenure x.position limit ≡ read_here log c x limit
 
--- The second of these laws: after the line of the read `r`, the tenure is as `after_read` says.
+-- The law, taken as given, that after a read's line the tenure is as `after_read` says.
 abbrev pub ReadState : Type 0
 ReadState = (log : Journal) (c limit : ℕ) (x : Holding) (r : ReadDone) → Holds log x
     → Holds (read_line c x limit r ∷ log) (after_read x r)
 
--- The third of these laws: the Give of the first read that waits is accepted (`IsGivenSo`).
+-- The law, taken as given, that the Give of the first read that waits is accepted.
 abbrev pub GiveLaw : Type 0
 GiveLaw = (log : Journal) (c : ℕ) (x : Holding) (r : ReadDone) (rest : List ReadDone) → Holds log x
     → x.waiting ≡ r ∷ rest → IsGivenSo log c x r
 
--- The fourth of these laws: after the line of a give of the read `r`, the tenure is as `after_give` says.
+-- The law, taken as given, that after a give's line the tenure is as `after_give` says.
 abbrev pub GivenState : Type 0
 GivenState = (log : Journal) (c : ℕ) (x : Holding) (r : ReadDone) (rest : List ReadDone) → Holds log x
     → x.waiting ≡ r ∷ rest → Holds (given_line c x ∷ log) (after_give x r rest)
 
--- The fifth of these laws: a mark that the tenure may make (`MayMark`) is accepted, if the row's counter isn't the last
--- number.
+-- The law, taken as given, that a mark that the tenure may make is accepted below the last counter.
 abbrev pub MarkLaw : Type 0
-MarkLaw = (log : Journal) (c : ℕ) (x : Holding) (to : Target) → Holds log x → MayMark x to
-    → (x.counter == last_number) ≡ false → IsMarkedSo log c x to
+MarkLaw = (log : Journal) (c : ℕ) (x : Holding) (goal : Target) → Holds log x → MayMark x goal
+    → (x.counter == last_number) ≡ false → IsMarkedSo log c x goal
 
--- The sixth of these laws: after the line of a mark at the target `to`, the tenure is as `after_mark` says.
+-- The law, taken as given, that after a mark's line the tenure is as `after_mark` says.
 abbrev pub MarkedState : Type 0
-MarkedState = (log : Journal) (c : ℕ) (x : Holding) (to : Target) → Holds log x
-    → Holds (marked_line c x to ∷ log) (after_mark x to)
+MarkedState = (log : Journal) (c : ℕ) (x : Holding) (goal : Target) → Holds log x
+    → Holds (marked_line c x goal ∷ log) (after_mark x goal)
 
--- If a line changes no row and begins no tenure, the other keys are still as they should be (`OthersWait`).
 same_others : (w : Spot) (old now : Journal) → ((key : ShardRef) → row now key ≡ row old key)
     → taken_count now ≡ taken_count old → OthersWait w old → OthersWait w now
 same_others w old now rows count others = record {
@@ -95,21 +91,22 @@ same_others w old now rows count others = record {
 
 -- ---- A Give
 
--- If the read `r` is the only one that waits, its Give is accepted, and the tenure is then as `after_give` says.
-pub gave : (w : Spot) (at : ℕ) (stands stands' : List Turn → Type 0) (by tenure : ℕ) (x : Holding) (r : ReadDone)
-    (a : Result Reply Refusal) → GiveLaw → GivenState → at < 2 ^ 62 → x.waiting ≡ r ∷ [] → x.tenure ≡ tenure
-    → (l : Leads stands by at w.history (Stands w by x))
-    → Answered stands stands' (turn_of by at (command.Give tenure)) a
-    → Leads stands' by at w.history (Stands w by (after_give x r []))
-gave w at stands stands' by tenure x r a law state below waits same l answers =
+-- The Give of the only read that waits is accepted.
+pub gave : (w : Spot) (moment : ℕ) (stands stands' : List Turn → Type 0) (actor tenure : ℕ) (x : Holding) (r : ReadDone)
+    (a : Result Reply Refusal) → GiveLaw → GivenState → moment < 2 ^ 62 → x.waiting ≡ r ∷ [] → x.tenure ≡ tenure
+    → (l : Leads stands actor moment w.history (Stands w actor x))
+    → Answered stands stands' (turn_of actor moment (command.Give tenure)) a
+    → Leads stands' actor moment w.history (Stands w actor (after_give x r []))
+gave w moment stands stands' actor tenure x r a law state below waits same l answers =
     let now = journal (l.more ++ w.history) in
-    let c = clock_at w at in
+    let c = clock_at w moment in
     let s = l.so in
-    let decided : give now c by tenure
+    let decided : give now c actor tenure
     ≡ Accepted (given_line c x ∷ []) (reply.Given (position_after x.done r.numbers)) =
     ap (λ n. give now c n tenure) (sym s.own) ∙ ap (λ n. give now c x.by n) (sym same)
     ∙ law now c x r [] s.holds waits in
-    (led stands stands' by at w.history (command.Give tenure) a (Stands w by x) (Stands w by (after_give x r []))
+    (led stands stands' actor moment w.history (command.Give tenure) a (Stands w actor x)
+    (Stands w actor (after_give x r []))
     (Accepted (given_line c x ∷ []) (reply.Given (position_after x.done r.numbers))) refl (
       below,
       tt,
@@ -121,117 +118,112 @@ gave w at stands stands' by tenure x r a law state below waits same l answers =
       of_key = s.of_key;
     })).1
 
--- In these lemmas, `w` is one of the listed keys, `at` is the moment of the turns, and `laws` are the facts about the
--- history before the drain.
-module _ (w : Spot) (at : ℕ) (spot : IsSpot w at) (laws : HasLaws w.history (clock_at w at)) where
+module _ (w : Spot) (moment : ℕ) (spot : IsSpot w moment) (laws : HasLaws w.history (clock_at w moment)) where
   -- ---- A Read
 
-  -- The decision `read_here` accepts the Read, and gives the line and the reply of the next read of `x`.
-  read_is : (now : Journal) (x : Holding) → IsOver w.history (clock_at w at) now → x.key ≡ w.key
-      → read_here now (clock_at w at) x READ
-      ≡ Accepted (read_line (clock_at w at) x READ (read_at w at x) ∷ []) (reply_at w at x)
+  read_is : (now : Journal) (x : Holding) → IsOver w.history (clock_at w moment) now → x.key ≡ w.key
+      → read_here now (clock_at w moment) x READ
+      ≡ Accepted (read_line (clock_at w moment) x READ (read_at w moment x) ∷ []) (reply_at w moment x)
   read_is now x is of_key =
-      let c = clock_at w at in
+      let c = clock_at w moment in
       ap (λ (k : ShardRef). read_reply now c x.by x.tenure READ k (batch now c k.stream k.shard x.position READ)
       (position_after x.position (numbers_of (batch now c k.stream k.shard x.position READ)))) of_key
       ∙ ap (λ bs. read_reply now c x.by x.tenure READ w.key bs (position_after x.position (numbers_of bs)))
       (same_batch w.history c now is w.key.stream w.key.shard x.position READ)
-      ∙ ap (λ b. Accepted (plain_line c x.by (entry.Read x.tenure READ b (numbers_of (batch_at w at x))) ∷ [])
-      (reply.Read (map stored (batch_at w at x)) (reach_at w at x) b))
-      (same_ends w.history c now is w.key.stream w.key.shard (reach_at w at x))
+      ∙ ap (λ b. Accepted (plain_line c x.by (entry.Read x.tenure READ b (numbers_of (batch_at w moment x))) ∷ [])
+      (reply.Read (map stored (batch_at w moment x)) (reach_at w moment x) b))
+      (same_ends w.history c now is w.key.stream w.key.shard (reach_at w moment x))
 
-  -- If the number of reads that wait is 0, it is below the number of reads that may wait.
   no_wait : (n : ℕ) → n ≡ 0 → n < PENDING_READS
   no_wait n is = omega arith
 
-  -- If the tenure is ready, a Read at its position is answered with the batch at this position. The tenure is then as
-  -- `read_then` says: this read waits to be given.
-  pub read_so : (stands stands' : List Turn → Type 0) (by : ℕ) (x : Holding) (held : DrainTenure)
-      (a : Result Reply Refusal) → ReadLaw → ReadState → at < 2 ^ 62 → IsReady w at x → IsHeld x held
-      → (l : Leads stands by at w.history (Stands w by x))
-      → Answered stands stands' (turn_of by at (command.Read held.tenure held.position READ)) a
-      → (a ≡ Ok (reply_at w at x)) × Leads stands' by at w.history (Stands w by (read_then w at x))
-  read_so stands stands' by x held a law state below ready is l answers =
+  pub read_so : (stands stands' : List Turn → Type 0) (actor : ℕ) (x : Holding) (held : DrainTenure)
+      (a : Result Reply Refusal) → ReadLaw → ReadState → moment < 2 ^ 62 → IsReady w moment x → IsHeld x held
+      → (l : Leads stands actor moment w.history (Stands w actor x))
+      → Answered stands stands' (turn_of actor moment (command.Read held.tenure held.position READ)) a
+      → (a ≡ Ok (reply_at w moment x)) × Leads stands' actor moment w.history (Stands w actor (read_then w moment x))
+  read_so stands stands' actor x held a law state below ready is l answers =
       let now = journal (l.more ++ w.history) in
-      let c = clock_at w at in
+      let c = clock_at w moment in
       let s = l.so in
-      let there = over stands by at w.history (Stands w by x) laws l in
+      let there = over stands actor moment w.history (Stands w actor x) laws l in
       let open_now : is_listed_key now c x.key ≡ true =
-      ap (is_listed_key now c) s.of_key ∙ listed w at spot laws now there in
-      let decided : read now c by held.tenure held.position READ
-      ≡ Accepted (read_line c x READ (read_at w at x) ∷ []) (reply_at w at x) =
+      ap (is_listed_key now c) s.of_key ∙ listed w moment spot laws now there in
+      let decided : read now c actor held.tenure held.position READ
+      ≡ Accepted (read_line c x READ (read_at w moment x) ∷ []) (reply_at w moment x) =
       ap (λ n. read now c n held.tenure held.position READ) (sym s.own)
       ∙ ap (λ n. read now c x.by n held.position READ) (sym is.tenure)
       ∙ ap (λ n. read now c x.by x.tenure n READ) (sym is.position)
       ∙ law now c READ x s.holds (no_wait (length x.waiting) (ap length ready.none_waits)) open_now
       ∙ read_is now x there s.of_key in
-      led stands stands' by at w.history (command.Read held.tenure held.position READ) a (Stands w by x)
-      (Stands w by (read_then w at x)) (Accepted (read_line c x READ (read_at w at x) ∷ []) (reply_at w at x)) refl
+      led stands stands' actor moment w.history (command.Read held.tenure held.position READ) a (Stands w actor x)
+      (Stands w actor (read_then w moment x))
+      (Accepted (read_line c x READ (read_at w moment x) ∷ []) (reply_at w moment x)) refl
       (below, (omega arith, omega arith)) answers l decided
       (record {
-        others = same_others w now (read_line c x READ (read_at w at x) ∷ now) (λ key. refl) refl s.others;
-        holds = state now c READ x (read_at w at x) s.holds;
+        others = same_others w now (read_line c x READ (read_at w moment x) ∷ now) (λ key. refl) refl s.others;
+        holds = state now c READ x (read_at w moment x) s.holds;
         own = s.own;
         of_key = s.of_key;
       })
 
   -- The lemma `read_so` for the result of a call, which has the answer unless memory ran out.
-  pub read_result : {E : Type 0} (stands stands' : List Turn → Type 0) (by : ℕ) (x : Holding) (held : DrainTenure)
-      (r : Result (Result Reply Refusal) E) → ReadLaw → ReadState → at < 2 ^ 62 → IsReady w at x → IsHeld x held
-      → (l : Leads stands by at w.history (Stands w by x))
-      → Answers stands stands' (turn_of by at (command.Read held.tenure held.position READ)) r
-      → IfOk r (λ a. (a ≡ Ok (reply_at w at x)) × Leads stands' by at w.history (Stands w by (read_then w at x)))
-  read_result stands stands' by x held (Ok a) law state below ready is l answers =
-      read_so stands stands' by x held a law state below ready is l answers
-  read_result stands stands' by x held (Err e) law state below ready is l answers = tt
+  pub read_result : {E : Type 0} (stands stands' : List Turn → Type 0) (actor : ℕ) (x : Holding) (held : DrainTenure)
+      (r : Result (Result Reply Refusal) E) → ReadLaw → ReadState → moment < 2 ^ 62 → IsReady w moment x → IsHeld x held
+      → (l : Leads stands actor moment w.history (Stands w actor x))
+      → Answers stands stands' (turn_of actor moment (command.Read held.tenure held.position READ)) r
+      → IfOk r (λ a. (a ≡ Ok (reply_at w moment x))
+      × Leads stands' actor moment w.history (Stands w actor (read_then w moment x)))
+  read_result stands stands' actor x held (Ok a) law state below ready is l answers =
+      read_so stands stands' actor x held a law state below ready is l answers
+  read_result stands stands' actor x held (Err e) law state below ready is l answers = tt
 
   -- ---- A Mark
 
-  -- If the tenure may mark its row at the target `to`, and the row's counter isn't the last number, the Mark is
-  -- accepted with the next counter. The tenure is then as `after_mark` says.
-  pub marked : (stands stands' : List Turn → Type 0) (by tenure counter : ℕ) (to : Target) (x : Holding)
-      (a : Result Reply Refusal) → MarkLaw → MarkedState → at < 2 ^ 62 → MayMark x to
+  -- A mark that the tenure may make is accepted, and raises the counter by one.
+  pub marked : (stands stands' : List Turn → Type 0) (actor tenure counter : ℕ) (goal : Target) (x : Holding)
+      (a : Result Reply Refusal) → MarkLaw → MarkedState → moment < 2 ^ 62 → MayMark x goal
       → (x.counter == last_number) ≡ false → x.tenure ≡ tenure → x.counter ≡ counter
-      → (l : Leads stands by at w.history (Stands w by x))
-      → Answered stands stands' (turn_of by at (command.Mark tenure counter to)) a
-      → (a ≡ Ok (reply.Counter (x.counter + 1))) × Leads stands' by at w.history (Stands w by (after_mark x to))
-  marked stands stands' by tenure counter to x a law state below may few same same_n l answers =
+      → (l : Leads stands actor moment w.history (Stands w actor x))
+      → Answered stands stands' (turn_of actor moment (command.Mark tenure counter goal)) a
+      → (a ≡ Ok (reply.Counter (x.counter + 1)))
+      × Leads stands' actor moment w.history (Stands w actor (after_mark x goal))
+  marked stands stands' actor tenure counter goal x a law state below may few same same_n l answers =
       let now = journal (l.more ++ w.history) in
-      let c = clock_at w at in
+      let c = clock_at w moment in
       let s = l.so in
-      let decided : mark now c by tenure counter to
-      ≡ Accepted (marked_line c x to ∷ []) (reply.Counter (x.counter + 1)) =
-      ap (λ n. mark now c n tenure counter to) (sym s.own)
-      ∙ ap (λ n. mark now c x.by n counter to) (sym same)
-      ∙ ap (λ n. mark now c x.by x.tenure n to) (sym same_n)
-      ∙ law now c x to s.holds may few in
-      led stands stands' by at w.history (command.Mark tenure counter to) a (Stands w by x)
-      (Stands w by (after_mark x to)) (Accepted (marked_line c x to ∷ []) (reply.Counter (x.counter + 1))) refl
+      let decided : mark now c actor tenure counter goal
+      ≡ Accepted (marked_line c x goal ∷ []) (reply.Counter (x.counter + 1)) =
+      ap (λ n. mark now c n tenure counter goal) (sym s.own)
+      ∙ ap (λ n. mark now c x.by n counter goal) (sym same)
+      ∙ ap (λ n. mark now c x.by x.tenure n goal) (sym same_n)
+      ∙ law now c x goal s.holds may few in
+      led stands stands' actor moment w.history (command.Mark tenure counter goal) a (Stands w actor x)
+      (Stands w actor (after_mark x goal)) (Accepted (marked_line c x goal ∷ []) (reply.Counter (x.counter + 1))) refl
       (below, tt) answers l decided
       (record {
-        others = others_stay w at spot laws now (marked_line c x to ∷ now) s.others
-            (λ key other. others now x to key s other) refl;
-        holds = state now c x to s.holds;
+        others = others_stay w moment spot laws now (marked_line c x goal ∷ now) s.others
+            (λ key other. others now x goal key s other) refl;
+        holds = state now c x goal s.holds;
         own = s.own;
         of_key = s.of_key;
       })
     where
-      others : (now : Journal) (x : Holding) (to : Target) (key : ShardRef) → Stands w by x now
-          → same_key w.key key ≡ false → row (marked_line (clock_at w at) x to ∷ now) key ≡ row now key
-      others now x to key s other =
-          ap (λ b. if b then option_map (marked_row to) (row now key) else row now key)
+      others : (now : Journal) (x : Holding) (goal : Target) (key : ShardRef) → Stands w actor x now
+          → same_key w.key key ≡ false → row (marked_line (clock_at w moment) x goal ∷ now) key ≡ row now key
+      others now x goal key s other =
+          ap (λ b. if b then option_map (marked_row goal) (row now key) else row now key)
           (ap (λ o. is_key o key) s.holds.tenure.took ∙ ap (λ k. same_key k key) s.of_key ∙ other)
 
   -- ---- What a read brought
 
-  -- What the next read of the tenure `x` brings. `Nothing`: no record is left from the tenure's position on, so the
-  -- batch is empty and the position stays. `Records`: the last record of the batch has the number `q`, and the position
-  -- rises. Once the read is given, the tenure may mark `q`, and after this mark it is ready for its next read.
+  -- What the next read brings: nothing, if no record is left, or records up to `q`, which the tenure may then mark.
   pub data Brought (x : Holding) : Type 0 where
-    Nothing : left_of (journal w.history) (clock_at w at) w.key x.position ≡ [] → last_at w at x ≡ None
-        → reach_at w at x ≡ x.position → Brought x
-    Records : (q : ℕ) → last_at w at x ≡ Some q → IsReady w at (after_mark (given_then w at x) (target.At q))
-        → MayMark (given_then w at x) (target.At q) → x.position < reach_at w at x → Brought x
+    Nothing : left_of (journal w.history) (clock_at w moment) w.key x.position ≡ [] → last_at w moment x ≡ None
+        → reach_at w moment x ≡ x.position → Brought x
+    Records : (q : ℕ) → last_at w moment x ≡ Some q
+        → IsReady w moment (after_mark (given_then w moment x) (target.At q))
+        → MayMark (given_then w moment x) (target.At q) → x.position < reach_at w moment x → Brought x
 
   not_less : (q n : ℕ) → n ≡ q + 1 → nat_le n q ≡ false
   not_less q n is = grind (arith, nat_tests)
@@ -239,48 +231,47 @@ module _ (w : Spot) (at : ℕ) (spot : IsSpot w at) (laws : HasLaws w.history (c
   not_under : (q n : ℕ) → n ≤ q → nat_lt q n ≡ false
   not_under q n le = grind (arith, nat_tests)
 
-  -- The lemma `brought`, where the batch is named `bs`.
-  brought_by : (x : Holding) (bs : List Logged) → batch_at w at x ≡ bs → IsReady w at x → Brought x
+  brought_by : (x : Holding) (bs : List Logged) → batch_at w moment x ≡ bs → IsReady w moment x → Brought x
   brought_by x [] is ready =
       let all = records_of (journal w.history) w.key in
       let none : beginning READ BATCH_BYTES (from x.position all) ≡ [] =
-      ap (beginning READ BATCH_BYTES) (sym (left_is w at spot laws x.position)) ∙ is in
+      ap (beginning READ BATCH_BYTES) (sym (left_is w moment spot laws x.position)) ∙ is in
       let stop : nat_lt x.position
       (position_after x.position (numbers_of (beginning READ BATCH_BYTES (from x.position all))))
       ≡ false = ap (λ ys. nat_lt x.position (position_after x.position (numbers_of ys))) none
       ∙ not_under x.position x.position (omega arith) in
-      Nothing (left_is w at spot laws x.position
-      ∙ stuck 999 x.position (from x.position all) (up_from x.position _ all (up w at spot laws))
+      Nothing (left_is w moment spot laws x.position
+      ∙ stuck 999 x.position (from x.position all) (up_from x.position _ all (up w moment spot laws))
       (sized_from x.position all (laws.sized w.key.stream w.key.shard)) stop)
       (ap (λ ys. last_number_in (map stored ys)) is) (ap (λ ys. position_after x.position (numbers_of ys)) is)
   brought_by x (b ∷ bs) is ready =
       let all = records_of (journal w.history) w.key in
       let start = start_of (shard_of (journal w.history) w.key) in
-      let same : batch_at w at x ≡ beginning READ BATCH_BYTES (from x.position all) =
-      ap (beginning READ BATCH_BYTES) (left_is w at spot laws x.position) in
-      let f = batched READ BATCH_BYTES start x.position all b bs (up w at spot laws) (sym same ∙ is) in
+      let same : batch_at w moment x ≡ beginning READ BATCH_BYTES (from x.position all) =
+      ap (beginning READ BATCH_BYTES) (left_is w moment spot laws x.position) in
+      let f = batched READ BATCH_BYTES start x.position all b bs (up w moment spot laws) (sym same ∙ is) in
       let q = last_seq b bs in
-      let reach : reach_at w at x ≡ q + 1 = ap (λ ys. position_after x.position (numbers_of ys)) same ∙ f.reach in
-      let done : position_after x.done (numbers_of (batch_at w at x)) ≡ reach_at w at x =
-      ap (λ p. position_after p (numbers_of (batch_at w at x))) ready.given in
-      let left : left_of (journal w.history) (clock_at w at) w.key (reach_at w at x) ≡ from (q + 1) all =
-      left_is w at spot laws (reach_at w at x) ∙ ap (λ p. from p all) reach in
+      let reach : reach_at w moment x ≡ q + 1 = ap (λ ys. position_after x.position (numbers_of ys)) same ∙ f.reach in
+      let done : position_after x.done (numbers_of (batch_at w moment x)) ≡ reach_at w moment x =
+      ap (λ p. position_after p (numbers_of (batch_at w moment x))) ready.given in
+      let left : left_of (journal w.history) (clock_at w moment) w.key (reach_at w moment x) ≡ from (q + 1) all =
+      left_is w moment spot laws (reach_at w moment x) ∙ ap (λ p. from p all) reach in
       Records q (ap (λ ys. last_number_in (map stored ys)) same ∙ f.number)
       (record {
         none_waits = refl;
         given = done;
         going = refl;
         settled = λ none. f.settled (sym left ∙ none);
-        low = under q (reach_at w at x) start reach;
+        low = under q (reach_at w moment x) start reach;
         budget = less x.counter (length (from (q + 1) all)) (length (from x.position all)) _ _ _ (ap length left)
-            (ap length (left_is w at spot laws x.position)) f.fewer ready.budget;
+            (ap length (left_is w moment spot laws x.position)) f.fewer ready.budget;
       }) (
         ready.going,
         not_less q _ (done ∙ reach),
         not_under q (least x.checkpoint x.floor)
             (over_low (least x.checkpoint x.floor) (max x.position start) q ready.low f.above),
       )
-      (beyond x.position start q (reach_at w at x) f.above reach)
+      (beyond x.position start q (reach_at w moment x) f.above reach)
     where
       beyond : (p start q n : ℕ) → max p start ≤ q → n ≡ q + 1 → p < n
       beyond p start q n le is = omega arith
@@ -295,45 +286,37 @@ module _ (w : Spot) (at : ℕ) (spot : IsSpot w at) (laws : HasLaws w.history (c
           → n + 1 + left ≤ most
       less n some all left left' most is is' le le' = omega arith
 
-  -- If the tenure `x` is ready, its next read brings nothing or records (`Brought`).
-  pub brought : (x : Holding) → IsReady w at x → Brought x
-  brought x ready = brought_by x (batch_at w at x) refl ready
+  pub brought : (x : Holding) → IsReady w moment x → Brought x
+  brought x ready = brought_by x (batch_at w moment x) refl ready
 
   -- ---- The counter of the row doesn't reach its limit
 
-  -- Let there be `h` turns, fewer than 2^32, and at most 500 records for each turn. If a counter `n` is at most the
-  -- number of turns and records together plus 1, it is below the last number.
   few_counters : (n h left all : ℕ) → n + left ≤ h + 1 + all → all ≤ 500 * h → h < 2 ^ 32 → n < 2 ^ 64 - 1
   few_counters n h left all le le' lt = omega arith
 
-  -- If the tenure is ready, the counter of its row isn't the last number.
-  pub some_left : (x : Holding) → IsReady w at x → (x.counter == last_number) ≡ false
+  pub some_left : (x : Holding) → IsReady w moment x → (x.counter == last_number) ≡ false
   some_left x ready = not_last x.counter
       (few_counters x.counter (length w.history) _ (length (records_of (journal w.history) w.key)) ready.budget
       (laws.few w.key.stream w.key.shard) spot.can.few)
 
   -- ---- The row is drained
 
-  -- If the checkpoint of the tenure's row is the one of a shard that was read to its end, the key's row is drained
-  -- (`IsDone`).
-  done_at : (now : Journal) (by : ℕ) (x : Holding) → Stands w by x now
+  done_at : (now : Journal) (actor : ℕ) (x : Holding) → Stands w actor x now
       → final_of (journal w.history) w.key ≡ x.checkpoint → IsDone w.history w.key (row now w.key)
-  done_at now by x s is =
+  done_at now actor x s is =
       let held = s.holds.row in
       ap (option_map (λ (r : Row). r.checkpoint)) (ap (row now) (sym s.of_key) ∙ held.there)
       ∙ ap Some (held.checkpoint ∙ sym is)
 
-  -- If the checkpoint of the tenure's row is the one of a shard that was read to its end (`final_of`), the rows up to
-  -- this key are drained.
-  pub drained_at : (stands : List Turn → Type 0) (by : ℕ) (x : Holding) → Leads stands by at w.history (Stands w by x)
-      → final_of (journal w.history) w.key ≡ x.checkpoint → IsDrainedHere stands w by at
-  drained_at stands by x l is =
-      so_too stands by at w.history (Stands w by x) (AreDrainedTo w.history w.keys w.among (w.index + 1)) l
-      (λ s. one_more w at spot laws (journal (l.more ++ w.history)) s.others
-      (done_at (journal (l.more ++ w.history)) by x s is))
+  pub drained_at : (stands : List Turn → Type 0) (actor : ℕ) (x : Holding)
+      → Leads stands actor moment w.history (Stands w actor x)
+      → final_of (journal w.history) w.key ≡ x.checkpoint → IsDrainedHere stands w actor moment
+  drained_at stands actor x l is =
+      so_too stands actor moment w.history (Stands w actor x) (AreDrainedTo w.history w.keys w.among (w.index + 1)) l
+      (λ s. one_more w moment spot laws (journal (l.more ++ w.history)) s.others
+      (done_at (journal (l.more ++ w.history)) actor x s is))
 
-  -- If the next read ends the shard, the checkpoint of the drained row has to be SHARD_END (`final_of`).
-  pub ended_final : (x : Holding) → ended_at w at x ≡ true → final_of (journal w.history) w.key ≡ ShardEnd
+  pub ended_final : (x : Holding) → ended_at w moment x ≡ true → final_of (journal w.history) w.key ≡ ShardEnd
   ended_final x is =
       ap (λ b. if b then ShardEnd else last_checkpoint (records_of (journal w.history) w.key))
       (both_left (is_closed_at (shard_of (journal w.history) w.key)) _ is)
@@ -342,28 +325,27 @@ module _ (w : Spot) (at : ℕ) (spot : IsSpot w at) (laws : HasLaws w.history (c
   none_closed true b e h = absurd (apart b e h)
   none_closed false b e h = refl
 
-  -- Suppose that no record is left to read, and that the next read doesn't end the shard. Then the row's checkpoint is
-  -- already that of a shard which was read to its end (`final_of`).
-  pub stopped_final : (x : Holding) → IsReady w at x → left_of (journal w.history) (clock_at w at) w.key x.position ≡ []
-      → reach_at w at x ≡ x.position → ended_at w at x ≡ false → final_of (journal w.history) w.key ≡ x.checkpoint
+  pub stopped_final : (x : Holding) → IsReady w moment x
+      → left_of (journal w.history) (clock_at w moment) w.key x.position ≡ []
+      → reach_at w moment x ≡ x.position → ended_at w moment x ≡ false
+      → final_of (journal w.history) w.key ≡ x.checkpoint
   stopped_final x ready none reach is =
-      let left : left_of (journal w.history) (clock_at w at) w.key (reach_at w at x) ≡ [] =
-      ap (left_of (journal w.history) (clock_at w at) w.key) reach ∙ none in
+      let left : left_of (journal w.history) (clock_at w moment) w.key (reach_at w moment x) ≡ [] =
+      ap (left_of (journal w.history) (clock_at w moment) w.key) reach ∙ none in
       ap (λ b. if b then ShardEnd else last_checkpoint (records_of (journal w.history) w.key))
       (none_closed (is_closed_at (shard_of (journal w.history) w.key))
-      (are_none (left_of (journal w.history) (clock_at w at) w.key (reach_at w at x))) (ap are_none left) is)
+      (are_none (left_of (journal w.history) (clock_at w moment) w.key (reach_at w moment x))) (ap are_none left) is)
       ∙ sym (ready.settled none)
 
   -- ---- The steps after a read
 
-  -- Suppose that the tenure `held` may mark its row at the target `to`, and that the row's counter isn't the last
-  -- number. Then this mark was accepted, and `n` is the row's new counter.
+  -- A mark that the tenure may make at `goal` was accepted, and `n` is the row's new counter.
   abbrev pub MarksOk : (List Turn → Type 0) → (List Turn → Type 0) → ℕ → DrainTenure → Target → ℕ → Type 0
-  MarksOk stands stands' by held to n =
-      (w : Spot) (x : Holding) → IsSpot w at → MayMark x to → (x.counter == last_number) ≡ false
+  MarksOk stands stands' actor held goal n =
+      (w : Spot) (x : Holding) → IsSpot w moment → MayMark x goal → (x.counter == last_number) ≡ false
       → x.tenure ≡ held.tenure → x.counter ≡ held.counter
-      → Leads stands by at w.history (Stands w by x) → (n ≡ x.counter + 1)
-      × Leads stands' by at w.history (Stands w by (after_mark x to))
+      → Leads stands actor moment w.history (Stands w actor x) → (n ≡ x.counter + 1)
+      × Leads stands' actor moment w.history (Stands w actor (after_mark x goal))
 
   no_number : (q : ℕ) → Some q ≡ None → ⊥
   no_number q h = cc
@@ -380,91 +362,91 @@ module _ (w : Spot) (at : ℕ) (spot : IsSpot w at) (laws : HasLaws w.history (c
   ended_kept None x = refl
   ended_kept (Some q) x = refl
 
-  -- If the last record of the batch has the number `q`, the step that marks `q` is the mark at the batch's last record
-  -- (`marked_then`).
-  pub marks_some : {E : Type 0} (stands stands' : List Turn → Type 0) (by q : ℕ) (held : DrainTenure)
-      (result : Result ℕ E) (x : Holding) → Marks stands stands' by at held (target.At q) result → IsReady w at x
-      → IsHeld x held → Some q ≡ last_at w at x
-      → Leads stands by at w.history (Stands w by (given_then w at x))
-      → IfOk result (λ n. (n ≡ (marked_then w at x).counter)
-      × Leads stands' by at w.history (Stands w by (marked_then w at x)))
-  marks_some stands stands' by q held result x marks ready is last l = by_brought (brought x ready)
+  pub marks_some : {E : Type 0} (stands stands' : List Turn → Type 0) (actor q : ℕ) (held : DrainTenure)
+      (result : Result ℕ E) (x : Holding) → Marks stands stands' actor moment held (target.At q) result
+      → IsReady w moment x
+      → IsHeld x held → Some q ≡ last_at w moment x
+      → Leads stands actor moment w.history (Stands w actor (given_then w moment x))
+      → IfOk result (λ n. (n ≡ (marked_then w moment x).counter)
+      × Leads stands' actor moment w.history (Stands w actor (marked_then w moment x)))
+  marks_some stands stands' actor q held result x marks ready is last l = by_brought (brought x ready)
     where
       by_brought : Brought x
-          → IfOk result (λ n. (n ≡ (marked_then w at x).counter)
-          × Leads stands' by at w.history (Stands w by (marked_then w at x)))
+          → IfOk result (λ n. (n ≡ (marked_then w moment x).counter)
+          × Leads stands' actor moment w.history (Stands w actor (marked_then w moment x)))
       by_brought (Nothing left none reach) = absurd (no_number q (last ∙ none))
       by_brought (Records p at_p next may beyond) =
-          let e = same_some p q (sym at_p ∙ sym last) in
-          subst (λ o. IfOk result (λ n. (n ≡ (marked_at o (given_then w at x)).counter)
-          × Leads stands' by at w.history (Stands w by (marked_at o (given_then w at x))))) last
-          (marks w (given_then w at x) spot (subst (λ n. MayMark (given_then w at x) (target.At n)) e may)
+          let e = same_Some p q (sym at_p ∙ sym last) in
+          subst (λ o. IfOk result (λ n. (n ≡ (marked_at o (given_then w moment x)).counter)
+          × Leads stands' actor moment w.history (Stands w actor (marked_at o (given_then w moment x))))) last
+          (marks w (given_then w moment x) spot (subst (λ n. MayMark (given_then w moment x) (target.At n)) e may)
           (some_left x ready) is.tenure is.counter l)
 
-  -- After the mark at the batch's last record, the counter of the row isn't the last number.
-  marked_left : (x : Holding) → IsReady w at x → Brought x → ((marked_then w at x).counter == last_number) ≡ false
+  marked_left : (x : Holding) → IsReady w moment x → Brought x → ((marked_then w moment x).counter == last_number)
+      ≡ false
   marked_left x ready (Nothing left none reach) =
-      subst (λ o. ((marked_at o (given_then w at x)).counter == last_number) ≡ false) (sym none) (some_left x ready)
+      subst (λ o. ((marked_at o (given_then w moment x)).counter == last_number) ≡ false) (sym none) (some_left x ready)
   marked_left x ready (Records q at_q next may beyond) =
-      subst (λ o. ((marked_at o (given_then w at x)).counter == last_number) ≡ false) (sym at_q)
-      (some_left (after_mark (given_then w at x) (target.At q)) next)
+      subst (λ o. ((marked_at o (given_then w moment x)).counter == last_number) ≡ false) (sym at_q)
+      (some_left (after_mark (given_then w moment x) (target.At q)) next)
 
-  -- If the read ended the shard, and then SHARD_END was marked, the key's row is drained.
-  pub ends : (stands stands' : List Turn → Type 0) (by n : ℕ) (held : DrainTenure) (x : Holding)
-      → MarksOk stands stands' by held target.End n → IsReady w at x → ended_at w at x ≡ true
-      → IsHeld (marked_then w at x) held
-      → Leads stands by at w.history (Stands w by (marked_then w at x)) → IsDrainedHere stands' w by at
-  ends stands stands' by n held x marks ready ended is l =
-      let y = marked_then w at x in
-      let may : y.ended ≡ true = ended_kept (last_at w at x) (given_then w at x) ∙ ended in
-      drained_at stands' by (after_mark y target.End)
+  -- After a read that ended the shard and a mark at SHARD_END, the key's row is drained.
+  pub ends : (stands stands' : List Turn → Type 0) (actor n : ℕ) (held : DrainTenure) (x : Holding)
+      → MarksOk stands stands' actor held target.End n → IsReady w moment x → ended_at w moment x ≡ true
+      → IsHeld (marked_then w moment x) held
+      → Leads stands actor moment w.history (Stands w actor (marked_then w moment x))
+      → IsDrainedHere stands' w actor moment
+  ends stands stands' actor n held x marks ready ended is l =
+      let y = marked_then w moment x in
+      let may : y.ended ≡ true = ended_kept (last_at w moment x) (given_then w moment x) ∙ ended in
+      drained_at stands' actor (after_mark y target.End)
       (marks w y spot may (marked_left x ready (brought x ready)) is.tenure is.counter l).1 (ended_final x ended)
 
-  -- If the read moved the tenure's position on, the tenure is ready for its next read after the mark (`ReadsOn`).
-  pub goes_on : (stands : List Turn → Type 0) (by : ℕ) (held : DrainTenure) (x : Holding) → IsReady w at x
-      → x.position < held.position → IsHeld (marked_then w at x) held
-      → Leads stands by at w.history (Stands w by (marked_then w at x)) → ReadsOn stands w by at held
-  goes_on stands by held x ready above is l =
-      record { now = marked_then w at x; leads = l; ready = by_brought (brought x ready); is = is }
+  -- If the read moved the position on, the tenure is ready for its next read after the mark.
+  pub goes_on : (stands : List Turn → Type 0) (actor : ℕ) (held : DrainTenure) (x : Holding) → IsReady w moment x
+      → x.position < held.position → IsHeld (marked_then w moment x) held
+      → Leads stands actor moment w.history (Stands w actor (marked_then w moment x))
+      → ReadsOn stands w actor moment held
+  goes_on stands actor held x ready above is l =
+      record { now = marked_then w moment x; leads = l; ready = by_brought (brought x ready); is = is }
     where
       no : (p q n m : ℕ) → p < q → n ≡ m → m ≡ p → n ≡ q → ⊥
       no p q n m lt e e' e'' = omega arith
 
-      by_brought : Brought x → IsReady w at (marked_then w at x)
+      by_brought : Brought x → IsReady w moment (marked_then w moment x)
       by_brought (Nothing left none reach) =
-          absurd (no x.position held.position (marked_then w at x).position (reach_at w at x) above
-          (position_kept (last_at w at x) (given_then w at x)) reach is.position)
+          absurd (no x.position held.position (marked_then w moment x).position (reach_at w moment x) above
+          (position_kept (last_at w moment x) (given_then w moment x)) reach is.position)
       by_brought (Records q at_q next may beyond) =
-          subst (λ o. IsReady w at (marked_at o (given_then w at x))) (sym at_q) next
+          subst (λ o. IsReady w moment (marked_at o (given_then w moment x))) (sym at_q) next
 
-  -- If the read didn't move the tenure's position on, and didn't end the shard, the key's row is drained.
-  pub stops : (stands : List Turn → Type 0) (by : ℕ) (held : DrainTenure) (x : Holding) → IsReady w at x
-      → held.position ≤ x.position → ended_at w at x ≡ false → IsHeld (marked_then w at x) held
-      → Leads stands by at w.history (Stands w by (marked_then w at x)) → IsDrainedHere stands w by at
-  stops stands by held x ready le ended is l = by_brought (brought x ready)
+  -- If the read neither moved the position on nor ended the shard, the key's row is drained.
+  pub stops : (stands : List Turn → Type 0) (actor : ℕ) (held : DrainTenure) (x : Holding) → IsReady w moment x
+      → held.position ≤ x.position → ended_at w moment x ≡ false → IsHeld (marked_then w moment x) held
+      → Leads stands actor moment w.history (Stands w actor (marked_then w moment x))
+      → IsDrainedHere stands w actor moment
+  stops stands actor held x ready le ended is l = by_brought (brought x ready)
     where
       no : (p q n m : ℕ) → q ≤ p → n ≡ m → p < m → n ≡ q → ⊥
       no p q n m le e lt e' = omega arith
 
-      by_brought : Brought x → IsDrainedHere stands w by at
+      by_brought : Brought x → IsDrainedHere stands w actor moment
       by_brought (Nothing left none reach) =
-          drained_at stands by (marked_then w at x) l (stopped_final x ready left reach ended
-          ∙ sym (ap (λ o. (marked_at o (given_then w at x)).checkpoint) none))
+          drained_at stands actor (marked_then w moment x) l (stopped_final x ready left reach ended
+          ∙ sym (ap (λ o. (marked_at o (given_then w moment x)).checkpoint) none))
       by_brought (Records q at_q next may beyond) =
-          absurd (no x.position held.position (marked_then w at x).position (reach_at w at x) le
-          (position_kept (last_at w at x) (given_then w at x)) beyond is.position)
+          absurd (no x.position held.position (marked_then w moment x).position (reach_at w moment x) le
+          (position_kept (last_at w moment x) (given_then w moment x)) beyond is.position)
 
-  -- After the next read of a tenure that is ready, this read is the only one that waits to be given.
-  pub waits_for : (x : Holding) → IsReady w at x → (read_then w at x).waiting ≡ read_at w at x ∷ []
-  waits_for x ready = ap (λ rs. rs ++ (read_at w at x ∷ [])) ready.none_waits
+  pub waits_for : (x : Holding) → IsReady w moment x → (read_then w moment x).waiting ≡ read_at w moment x ∷ []
+  waits_for x ready = ap (λ rs. rs ++ (read_at w moment x ∷ [])) ready.none_waits
 
-  -- After the mark, the tenure has the number, the position and the counter that the code keeps (`IsHeld`). `reach` is
-  -- the position after the batch, and `n` the counter after the mark.
-  pub held_then : (x : Holding) (held : DrainTenure) (reach n : ℕ) → IsHeld x held → reach ≡ reach_at w at x
-      → n ≡ (marked_then w at x).counter
-      → IsHeld (marked_then w at x) (record { tenure = held.tenure; position = reach; counter = n })
+  -- After the mark, the code keeps the tenure's new position `reach` and counter `n`.
+  pub held_then : (x : Holding) (held : DrainTenure) (reach n : ℕ) → IsHeld x held → reach ≡ reach_at w moment x
+      → n ≡ (marked_then w moment x).counter
+      → IsHeld (marked_then w moment x) (record { tenure = held.tenure; position = reach; counter = n })
   held_then x held reach n is same counter = record {
-    tenure = tenure_kept (last_at w at x) (given_then w at x) ∙ is.tenure;
-    position = position_kept (last_at w at x) (given_then w at x) ∙ sym same;
+    tenure = tenure_kept (last_at w moment x) (given_then w moment x) ∙ is.tenure;
+    position = position_kept (last_at w moment x) (given_then w moment x) ∙ sym same;
     counter = sym counter;
   }

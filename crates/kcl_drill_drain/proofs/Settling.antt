@@ -1,5 +1,4 @@
--- If no record is left from a position on, the checkpoint of the row is at the shard's last record. This is true when
--- the drain of a row begins, and after each mark at the last record of a batch.
+-- If no record is left from a position on, the checkpoint is at the shard's last record.
 use Rattle.std.proofs.Common.{◌≡◌, ℕ, zero, suc, ◌+◌, ◌-◌, ◌<◌, ◌≤◌, max, Bool, true, false, List, [], ◌∷◌, ◌++◌}
 use Rattle.std.proofs.Common.{length, map, Option, Some, refl, sym, ap, subst, ◌∙◌, arith, inl, inr}
 use Rattle.std.specs.Prelude.{nat_le, cond, slice_get}
@@ -19,15 +18,12 @@ use Rattle.kcl_drill_summary.proofs.BatchLemmas.{from_twice}
 
 -- ---- When the drain of a row begins
 
--- If no record is left from the position `p` on, the number of the first record is below `p`, and none of the others is
--- left.
 none_first : (p : ℕ) (r : Logged) (rs : List Logged) (b : Bool) → nat_le p r.seq ≡ b
     → cond b (r ∷ from p rs) (from p rs) ≡ [] → (r.seq < p) × (from p rs ≡ [])
 none_first p r rs true is none = absurd cc
 none_first p r rs false is none = (above_so p r.seq is, none)
 
--- Suppose that no record has a number above `q`, and that some record has the number `q` or a greater one. Then the
--- checkpoint at `q` is the one at the last record.
+-- If no record is above `q` and some record is at or above it, the checkpoint at `q` is the last.
 pub settled_at : (q p : ℕ) (rs : List Logged) → IsUp p rs → HasFrom q rs → from (q + 1) rs ≡ []
     → At q ≡ last_checkpoint rs
 settled_at q p [] up has none = absurd has
@@ -44,8 +40,6 @@ settled_at q p (r ∷ s ∷ rs) up (inl le) none =
 settled_at q p (r ∷ s ∷ rs) up (inr has) none =
     settled_at q (r.seq + 1) (s ∷ rs) up.1 has (none_first (q + 1) r (s ∷ rs) (nat_le (q + 1) r.seq) refl none).1
 
--- If no record is left from the position 0 on, there is no record at all, and the checkpoint at the last record is
--- TRIM_HORIZON.
 pub settled_horizon : (p : ℕ) (rs : List Logged) → IsUp p rs → from 0 rs ≡ [] → TrimHorizon ≡ last_checkpoint rs
 settled_horizon p rs up none = ap last_checkpoint (sym none ∙ all_from 0 rs (up_weaker 0 p rs (omega arith) up))
 
@@ -61,7 +55,6 @@ from_head p r rs x xs true is up so none are =
 from_head p r [] x xs false is up so none are = absurd cc
 from_head p r (s ∷ rs) x xs false is up so none are = so are
 
--- If some records are left from the position `p` on, the last one of them is the last of all.
 last_from : (p m : ℕ) (rs : List Logged) (x : Logged) (xs : List Logged) → IsUp m rs → from p rs ≡ x ∷ xs
     → last_checkpoint rs ≡ last_checkpoint (x ∷ xs)
 last_from p m [] x xs up are = absurd cc
@@ -69,7 +62,6 @@ last_from p m (r ∷ rs) x xs up are =
     from_head p r rs x xs (nat_le p r.seq) refl up.1 (λ so. last_from p (r.seq + 1) rs x xs up.1 so)
     (λ none. ap (from p) none) are
 
--- If a batch isn't empty, and no record is left after it, then its last record is the last one of the shard.
 settled_batch : (limit room position m : ℕ) (rs : List Logged) (x : Logged) (xs : List Logged) → IsUp m rs
     → beginning limit room (from position rs) ≡ x ∷ xs
     → from (position_after position (numbers_of (beginning limit room (from position rs)))) rs ≡ []
@@ -85,12 +77,11 @@ settled_batch limit room position m rs x xs up is none =
 
 -- ---- The last record of a batch that isn't empty
 
--- The sequence number of the last of these records, of which `x` is the first and `xs` are the others.
 pub last_seq : Logged → List Logged → ℕ
 last_seq x [] = x.seq
 last_seq x (y ∷ ys) = last_seq y ys
 
--- The sequence number of the record at the index `i`, if there is one.
+-- The sequence number of the record at the index `i`, if any.
 abbrev seq_at : List Logged → ℕ → Option ℕ
 seq_at xs i = option_map (λ (r : Stored). r.seq) (slice_get (map stored xs) i)
 
@@ -99,7 +90,6 @@ unfolding last_seq
 last_of x [] = refl
 last_of x (y ∷ ys) = last_of y ys
 
--- The last sequence number of a batch that isn't empty is that of its last record.
 number_is : (x : Logged) (xs : List Logged) → last_number_in (map stored (x ∷ xs)) ≡ Some (last_seq x xs)
 number_is x xs =
     let e : length (map stored (x ∷ xs)) - 1 ≡ length xs =
@@ -109,25 +99,21 @@ number_is x xs =
     less : (n m : ℕ) → n ≡ m → suc n - 1 ≡ m
     less n m is = omega arith
 
--- The checkpoint at the last record of a batch that isn't empty is at this record's number.
 checkpoint_is : (x : Logged) (xs : List Logged) → last_checkpoint (x ∷ xs) ≡ At (last_seq x xs)
 unfolding last_seq
 checkpoint_is x [] = refl
 checkpoint_is x (y ∷ ys) = checkpoint_is y ys
 
--- The position after a batch that isn't empty is one above the number of its last record.
 reach_is : (p : ℕ) (x : Logged) (xs : List Logged) → position_after p (numbers_of (x ∷ xs)) ≡ last_seq x xs + 1
 unfolding last_seq
 reach_is p x [] = refl
 reach_is p x (y ∷ ys) = reach_is (x.seq + 1) y ys
 
--- If the numbers of the records rise from `p` on, the last one is at least `p`.
 above_is : (p : ℕ) (x : Logged) (xs : List Logged) → IsUp p (x ∷ xs) → p ≤ last_seq x xs
 unfolding last_seq
 above_is p x [] up = up.0
 above_is p x (y ∷ ys) up = let n = above_is (x.seq + 1) y ys up.1 in omega (arith, n, up.0)
 
--- If the numbers of records rise, so do the numbers of each batch that these records begin with.
 up_beginning : (limit room p : ℕ) (rs : List Logged) → IsUp p rs → IsUp p (beginning limit room rs)
 up_beginning zero room p rs up = tt
 up_beginning (suc limit) room p [] up = tt
@@ -136,10 +122,7 @@ up_beginning (suc limit) room p (r ∷ rs) up =
     cond_both (nat_le r.bytes room) (r ∷ beginning limit (room - r.bytes) rs) [] (IsUp p) (λ fits. (up.0, rest))
     (λ full. tt)
 
--- What is true of `bs`, a batch of the records `rs` from the position `position` on, whose last record has the number
--- `q`. The position after the batch is `q` + 1, and `q` is at or above `position` and the shard's start. If no record
--- is left after the batch, the checkpoint at `q` is the one at the shard's last record. Fewer records are left after
--- the batch than from `position` on.
+-- `bs`, a batch of `rs` from `position` on, moves the position to `q` + 1, and if nothing is left, `q` is the last.
 pub record IsBatchTo (start position : ℕ) (rs bs : List Logged) (q : ℕ) : Type 0 where
   pub number : last_number_in (map stored bs) ≡ Some q
   pub reach : position_after position (numbers_of bs) ≡ q + 1
@@ -157,7 +140,7 @@ fewer_by ls bs rest x xs are is =
 both_above : (position start q : ℕ) → position ≤ q → start ≤ q → max position start ≤ q
 both_above position start q le le' = omega arith
 
--- For a batch that isn't empty, `IsBatchTo` holds with the number of the batch's last record.
+-- For a batch that isn't empty, `IsBatchTo` holds with its last record's number.
 pub batched : (limit room start position : ℕ) (rs : List Logged) (x : Logged) (xs : List Logged) → IsUp start rs
     → beginning limit room (from position rs) ≡ x ∷ xs
     → IsBatchTo start position rs (beginning limit room (from position rs)) (last_seq x xs)
@@ -182,7 +165,6 @@ batched limit room start position rs x xs up is =
       fewer = fewer_by ls bs (from (q + 1) rs) x xs (parts limit room position ls up' ∙ ap (λ ys. bs ++ ys) rest) is;
     }
 
--- At most as many records are left from a position on as there are records.
 pub fewer_from : (p : ℕ) (rs : List Logged) → length (from p rs) ≤ length rs
 fewer_from p [] = omega arith
 fewer_from p (r ∷ rs) =

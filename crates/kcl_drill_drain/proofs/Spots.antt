@@ -1,5 +1,4 @@
--- Facts about one of the listed keys (a spot) and the other listed keys: how the keys are ordered, and that the parents
--- of a key's shard were read to their ends before this key's row is drained.
+-- The listed keys: their order, and that a shard's parents were read to their ends before its own row is drained.
 use Rattle.std.proofs.Common.{◌≡◌, ℕ, zero, suc, ◌+◌, ◌*◌, ◌<◌, ◌≤◌, ◌^◌, max, Bool, true, false, List, [], ◌∷◌, length}
 use Rattle.std.proofs.Common.{get_or, Option, Some, None, refl, sym, ap, subst, ◌∙◌, arith, inl, inr}
 use Rattle.std.specs.Prelude.{◌⊎◌, ◌&&◌, not, slice_get, if◌then◌else◌, nat_lt}
@@ -35,14 +34,12 @@ use Rattle.kcl_drill_drain.proofs.KeyLemmas.{older_in, unlike_in, up_numbers}
 use Rattle.kcl_drill_drain.proofs.Leading.{IsOver}
 use Rattle.kcl_drill_drain.proofs.Overs.{is_listed_now, same_shard}
 
--- What is true of each element of a list is true of the element at an index.
 pub all_get : {A : Type 0} (P : A → Type 0) (xs : List A) (i : ℕ) (x : A) → AllByRecursion P xs
     → slice_get xs i ≡ Some x → P x
 all_get P [] i x are is = absurd cc
 all_get P (y ∷ xs) zero x are is = let e : y ≡ x = cc in subst P e are.0
 all_get P (y ∷ xs) (suc i) x are is = all_get P xs i x are.1 is
 
--- If shards are numbered from `n` on, the one at the index `i` has the number `n` + `i`.
 pub number_at : (n i : ℕ) (xs : List ShardState) (x : ShardState) → AreNumbered n xs → slice_get xs i ≡ Some x
     → x.no ≡ n + i
 number_at n i [] x numbers is = absurd cc
@@ -53,42 +50,39 @@ number_at n zero (y ∷ xs) x numbers is = let e : y ≡ x = cc in
     plus m is = omega arith
 number_at n (suc i) (y ∷ xs) x numbers is = let e = number_at (n + 1) i xs x numbers.1 is in omega arith
 
--- The spot of the key `key` at the index `i` of the listed keys, with the history before the drain and the rows of the
--- survey.
+-- The spot of the key `key` at the index `i` of the listed keys.
 abbrev pub spot_of : List Turn → List ShardRef → List Row → ℕ → ShardRef → Spot
 spot_of h keys among i key = record { history = h; keys = keys; among = among; index = i; key = key }
 
--- Each of the listed keys of a history that can be drained is a spot (`IsSpot`), if there are fewer than 2^59 keys.
-pub is_spot : (h : List Turn) (at : ℕ) (keys : List ShardRef) (among : List Row) (i : ℕ) (key : ShardRef)
-    → CanDrain h at → keys ≡ listed_keys h at → i < length keys → key ≡ get_or keys i key → length keys * 16 < 2 ^ 63
-    → IsSpot (spot_of h keys among i key) at
-is_spot h at keys among i key can listed below is few =
+pub is_spot : (h : List Turn) (moment : ℕ) (keys : List ShardRef) (among : List Row) (i : ℕ) (key : ShardRef)
+    → CanDrain h moment → keys ≡ listed_keys h moment → i < length keys → key ≡ get_or keys i key
+    → length keys * 16 < 2 ^ 63
+    → IsSpot (spot_of h keys among i key) moment
+is_spot h moment keys among i key can listed below is few =
     let here = slice_get_read keys (length keys) i key refl below is in
     record { can = can; listed = listed; here = here; few = omega arith }
 
 -- ---- The listed keys of a history
 
--- If `IsWhole` holds for each live stream, the listed keys are those of all shards of the live streams.
-pub keys_are : (h : List Turn) (at : ℕ)
-    → ((s : ℕ) → is_live (journal h) s ≡ true → IsWhole (journal h) (max (clock h) at) s)
-    → listed_keys h at ≡ keys_in (journal h) (live_streams (journal h))
-keys_are h at whole =
-    keys_same (journal h) (max (clock h) at) (live_streams (journal h)) whole
+pub keys_are : (h : List Turn) (moment : ℕ)
+    → ((s : ℕ) → is_live (journal h) s ≡ true → IsWhole (journal h) (max (clock h) moment) s)
+    → listed_keys h moment ≡ keys_in (journal h) (live_streams (journal h))
+keys_are h moment whole =
+    keys_same (journal h) (max (clock h) moment) (live_streams (journal h)) whole
     (filtered (is_live (journal h)) (numbers_from 1 (made_count (journal h))))
 
--- If `IsWhole` holds for each live stream, the key of each shard of a live stream is among the listed keys.
-pub key_there : (h : List Turn) (at : ℕ) (s sh : ℕ) (x : ShardState)
-    → ((s : ℕ) → is_live (journal h) s ≡ true → IsWhole (journal h) (max (clock h) at) s) → HasLaws h (max (clock h) at)
+pub key_there : (h : List Turn) (index : ℕ) (s sh : ℕ) (x : ShardState)
+    → ((s : ℕ) → is_live (journal h) s ≡ true → IsWhole (journal h) (max (clock h) index) s)
+    → HasLaws h (max (clock h) index)
     → is_live (journal h) s ≡ true → shard_at (journal h) s sh ≡ Some x
-    → (j : ℕ) × (slice_get (listed_keys h at) j ≡ Some (ref s sh))
-key_there h at s sh x whole laws live there =
+    → (j : ℕ) × (slice_get (listed_keys h index) j ≡ Some (ref s sh))
+key_there h index s sh x whole laws live there =
     let log = journal h in
     let n = laws.live s live in
     let among = in_numbers log laws.numbered 1 (made_count log) s live n.0 (omega (arith, n.1)) in
     let found = all_in log laws.numbered (live_streams log) s sh x among there in
-    (found.0, ap (λ ks. slice_get ks found.0) (keys_are h at whole) ∙ found.1)
+    (found.0, ap (λ ks. slice_get ks found.0) (keys_are h index whole) ∙ found.1)
 
--- If `j` is below `i` + 1, it is below `i` or equal to `i`.
 pub up_to : (j i : ℕ) → j < i + 1 → (j < i) ⊎ (j ≡ i)
 up_to j i below = either (nat_lt j i) refl
   where
@@ -102,25 +96,20 @@ up_to j i below = either (nat_lt j i) refl
     either true is = inl (lt is)
     either false is = inr (eq is)
 
--- In these lemmas, `w` is one of the listed keys, `at` is the moment of the turns, and `laws` are the facts about the
--- history before the drain.
-module _ (w : Spot) (at : ℕ) (spot : IsSpot w at) (laws : HasLaws w.history (clock_at w at)) where
-  -- The listed keys are those of all shards of the live streams.
+module _ (w : Spot) (moment : ℕ) (spot : IsSpot w moment) (laws : HasLaws w.history (clock_at w moment)) where
   all_keys : w.keys ≡ keys_in (journal w.history) (live_streams (journal w.history))
-  all_keys = spot.listed ∙ keys_are w.history at spot.can.whole
+  all_keys = spot.listed ∙ keys_are w.history moment spot.can.whole
 
   in_streams : (j : ℕ) (key : ShardRef) → slice_get w.keys j ≡ Some key
       → slice_get (keys_in (journal w.history) (live_streams (journal w.history))) j ≡ Some key
   in_streams j key is = ap (λ ks. slice_get ks j) (sym all_keys) ∙ is
 
-  -- The key is that of a shard of a live stream.
   pub key_is : IsKeyOf (journal w.history) w.key
   key_is = key_of_streams (journal w.history) laws.numbered (live_streams (journal w.history)) w.index w.key
       (filtered (is_live (journal w.history)) (numbers_from 1 (made_count (journal w.history))))
       (in_streams w.index w.key spot.here)
 
-  -- No record of the key's stream is trimmed, and none of its shards is expired.
-  pub whole_is : IsWhole (journal w.history) (clock_at w at) w.key.stream
+  pub whole_is : IsWhole (journal w.history) (clock_at w moment) w.key.stream
   whole_is = spot.can.whole w.key.stream key_is.live
 
   -- A key at another index is another key.
@@ -135,27 +124,27 @@ module _ (w : Spot) (at : ℕ) (spot : IsSpot w at) (laws : HasLaws w.history (c
       (up_numbers (is_live (journal w.history)) 1 (made_count (journal w.history))) above
       (in_streams w.index w.key spot.here) (in_streams j key is)).0
 
-  -- The keys of the shards with smaller numbers in the key's stream come before the key.
   pub before : (p : ℕ) → p < w.key.shard → (j : ℕ) × (j < w.index) × (slice_get w.keys j ≡ Some (ref w.key.stream p))
   before p below =
       let o = older_in (journal w.history) laws.numbered (live_streams (journal w.history)) w.index p w.key below
       (in_streams w.index w.key spot.here) in
       (o.0, o.1, ap (λ ks. slice_get ks o.0) all_keys ∙ o.2)
 
-  -- The shard of the key is listed, also after turns on leases.
-  pub listed : (now : Journal) → IsOver w.history (clock_at w at) now → is_listed_key now (clock_at w at) w.key ≡ true
-  listed now is = is_listed_now w.history (clock_at w at) now is w.key key_is.state key_is.live key_is.there
-      (all_get (λ (x : ShardState). is_closed_below (trim_floor (journal w.history) (clock_at w at) w.key.stream) x
+  pub listed : (now : Journal) → IsOver w.history (clock_at w moment) now
+      → is_listed_key now (clock_at w moment) w.key ≡ true
+  listed now is = is_listed_now w.history (clock_at w moment) now is w.key key_is.state key_is.live key_is.there
+      (all_get (λ (x : ShardState). is_closed_below (trim_floor (journal w.history) (clock_at w moment) w.key.stream) x
       ≡ false) (shards (journal w.history) w.key.stream) w.key.shard key_is.state whole_is.listed key_is.there)
 
   -- ---- The parents of the key's shard were read to their ends
 
-  -- A row with the checkpoint SHARD_END says that its shard was read to its end.
   ended_row : (o : Option Row) → option_map (λ (r : Row). r.checkpoint) o ≡ Some ShardEnd → is_marked_to_end o ≡ true
   ended_row None is = absurd cc
   ended_row (Some r) is = end_at r.checkpoint (cc)
     where
-      end_at : (at : Checkpoint) → at ≡ ShardEnd → is_marked_to_end (Some (record r { checkpoint = at })) ≡ true
+      end_at : (checkpoint : Checkpoint) → checkpoint ≡ ShardEnd
+          → is_marked_to_end (Some (record r { checkpoint = checkpoint }))
+          ≡ true
       end_at TrimHorizon e = absurd cc
       end_at (At q) e = absurd cc
       end_at ShardEnd e = refl
@@ -164,30 +153,27 @@ module _ (w : Spot) (at : ℕ) (spot : IsSpot w at) (laws : HasLaws w.history (c
   none_unread true b e = ap not e
   none_unread false b e = refl
 
-  -- Suppose that the rows of the keys before this one are drained, and that a parent of the shard is closed and has a
-  -- smaller number than the shard. Then this parent doesn't prevent the shard from being opened.
   past_one : (now : Journal) (o : Option ℕ) (next : Decision)
       → ((j : ℕ) (key : ShardRef) → j < w.index → slice_get w.keys j ≡ Some key → IsDone w.history key (row now key))
       → IsParentClosed (shards (journal w.history) w.key.stream) w.key.shard o
-      → past_parent now (clock_at w at) w.key.stream o next ≡ next
+      → past_parent now (clock_at w moment) w.key.stream o next ≡ next
   past_one now None next done closed = refl
   past_one now (Some p) next done closed =
       let b = before p closed.0 in
       let k : ShardRef = ref w.key.stream p in
       let is = done b.0 k b.1 b.2 in
       let final : final_of (journal w.history) k ≡ ShardEnd = ap (λ d. if d then ShardEnd else last_of k) closed.1 in
-      passed_if (refusal.ParentsOpen k) (is_unread now (clock_at w at) k) next
-      (none_unread (is_listed_key now (clock_at w at) k) (is_marked_to_end (row now k))
+      passed_if (refusal.ParentsOpen k) (is_unread now (clock_at w moment) k) next
+      (none_unread (is_listed_key now (clock_at w moment) k) (is_marked_to_end (row now k))
       (ended_row (row now k) (is ∙ ap Some final)))
     where
       last_of : ShardRef → Checkpoint
       last_of k = last_checkpoint (records_of (journal w.history) k)
 
-  -- If the rows of the keys before this one are drained, the parents of this key's shard don't prevent the shard from
-  -- being opened (`ArePast`): each parent was read to its end, or isn't listed.
-  pub past : (now : Journal) → IsOver w.history (clock_at w at) now
+  -- The shard may be opened: each parent was read to its end, or isn't listed.
+  pub past : (now : Journal) → IsOver w.history (clock_at w moment) now
       → ((j : ℕ) (key : ShardRef) → j < w.index → slice_get w.keys j ≡ Some key → IsDone w.history key (row now key))
-      → ArePast now (clock_at w at) w.key
+      → ArePast now (clock_at w moment) w.key
   past now over done next =
       let x = key_is.state in
       let closed = all_get (λ (x : ShardState). IsParentClosed (shards (journal w.history) w.key.stream) x.no x.parent
@@ -196,9 +182,9 @@ module _ (w : Spot) (at : ℕ) (spot : IsSpot w at) (laws : HasLaws w.history (c
       let no : x.no ≡ w.key.shard =
       number_at 0 w.key.shard (shards (journal w.history) w.key.stream) x (laws.numbered w.key.stream) key_is.there
       ∙ plain w.key.shard in
-      ap (λ o. past_parents now (clock_at w at) w.key.stream o next)
-      (same_shard w.history (clock_at w at) now over w.key.stream w.key.shard ∙ key_is.there)
-      ∙ past_one now x.parent (past_parent now (clock_at w at) w.key.stream x.adjacent next) done
+      ap (λ o. past_parents now (clock_at w moment) w.key.stream o next)
+      (same_shard w.history (clock_at w moment) now over w.key.stream w.key.shard ∙ key_is.there)
+      ∙ past_one now x.parent (past_parent now (clock_at w moment) w.key.stream x.adjacent next) done
       (subst (λ n. IsParentClosed (shards (journal w.history) w.key.stream) n x.parent) no closed.0)
       ∙ past_one now x.adjacent next done
       (subst (λ n. IsParentClosed (shards (journal w.history) w.key.stream) n x.adjacent) no closed.1)
@@ -208,8 +194,6 @@ module _ (w : Spot) (at : ℕ) (spot : IsSpot w at) (laws : HasLaws w.history (c
 
   -- ---- The other keys, as long as their rows stay
 
-  -- If the rows of other keys stay as they are and no tenure begins, the other keys are still as they should be
-  -- (`OthersWait`).
   pub others_stay : (old now : Journal) → OthersWait w old
       → ((key : ShardRef) → same_key w.key key ≡ false → row now key ≡ row old key) → taken_count now ≡ taken_count old
       → OthersWait w now
@@ -222,11 +206,9 @@ module _ (w : Spot) (at : ℕ) (spot : IsSpot w at) (laws : HasLaws w.history (c
     few = subst (λ n. n ≤ length w.history + (w.index + 1)) (sym count) others.few;
   }
 
-  -- The listed key at the index of `w` is the key of `w`.
   pub same_here : (j : ℕ) (key : ShardRef) → j ≡ w.index → slice_get w.keys j ≡ Some key → key ≡ w.key
   same_here j key e is = let a : Some key ≡ Some w.key = sym is ∙ ap (slice_get w.keys) e ∙ spot.here in cc (a)
 
-  -- If the rows of the keys before this one and of this key are drained, so is the row of each key up to this one.
   done_by : (now : Journal)
       → ((j : ℕ) (key : ShardRef) → j < w.index → slice_get w.keys j ≡ Some key → IsDone w.history key (row now key))
       → IsDone w.history w.key (row now w.key)
@@ -236,8 +218,6 @@ module _ (w : Spot) (at : ℕ) (spot : IsSpot w at) (laws : HasLaws w.history (c
   done_by now before here j key is (inr same) =
       subst (λ k. IsDone w.history k (row now k)) (sym (same_here j key same is)) here
 
-  -- Suppose that the other keys are as they should be (`OthersWait`) and that the row of this key is drained. Then the
-  -- rows of the keys up to this one are drained, and the others wait.
   pub one_more : (now : Journal) → OthersWait w now → IsDone w.history w.key (row now w.key)
       → AreDrainedTo w.history w.keys w.among (w.index + 1) now
   one_more now others here = record {
@@ -246,8 +226,6 @@ module _ (w : Spot) (at : ℕ) (spot : IsSpot w at) (laws : HasLaws w.history (c
     few = others.few;
   }
 
-  -- If the rows of the keys before this one are drained and the others wait, then the other keys are as they should be
-  -- (`OthersWait`).
   pub none_yet : (now : Journal) → AreDrainedTo w.history w.keys w.among w.index now → OthersWait w now
   none_yet now drained = record {
     done = drained.done;

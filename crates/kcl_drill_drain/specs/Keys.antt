@@ -1,5 +1,4 @@
--- A drain goes over the keys of the listed shards in order. First it makes a row for each key that has none, and then
--- it drains the row of each key. These definitions say how far a drain has come.
+-- How far a drain has come: first each listed key gets a row, and then the rows are drained in order.
 use Rattle.std.specs.Prelude.{ℕ, ◌≡◌, ◌+◌, ◌<◌, ◌≤◌, max, List, length, slice_get, Some}
 use Rattle.kds_base.specs.declared.lease_key.ShardRef.{ShardRef}
 use Rattle.kds_defs.specs.declared.command.Turn.{Turn}
@@ -12,33 +11,29 @@ use Rattle.kds_defs.specs.Streams.{live_streams}
 use Rattle.kcl_drill_summary.specs.Counting.{row_among}
 use Rattle.kcl_drill_drain.specs.Draining.{IsDone, IsFresh}
 
--- The keys of the shards that are listed at the greater of the history's clock and `at`, in their order.
-abbrev pub listed_keys : List Turn → ℕ → List ShardRef
-listed_keys h at = listed_in (journal h) (max (clock h) at) (live_streams (journal h))
+-- The keys of the shards listed at the greater of the history's clock and `moment`, in their order.
+abbrev pub listed_keys : (h : List Turn) (moment : ℕ) → List ShardRef
+listed_keys h moment = listed_in (journal h) (max (clock h) moment) (live_streams (journal h))
 
 -- The key has a row in the journal.
-abbrev pub HasRow : Journal → ShardRef → Type 0
+abbrev pub HasRow : (log : Journal) (key : ShardRef) → Type 0
 HasRow log key = (r : Row) × (row log key ≡ Some r)
 
--- The drain has made the rows of the first `i` keys: each of these keys has a row in `log`, and so has each key with a
--- row in `among`, the rows of the survey. Each row is as a row can be before its drain (`IsFresh`). At most as many
--- tenures began as `h`, the history before the drain, has turns.
+-- The first `i` keys and the keys of the survey's rows (`among`) have rows, as before a drain (`IsFresh`).
 pub record AreMade (h : List Turn) (keys : List ShardRef) (among : List Row) (i : ℕ) (log : Journal) : Type 0 where
   pub fresh : (key : ShardRef) (r : Row) → row log key ≡ Some r → IsFresh h key r
   pub kept : (key : ShardRef) (r : Row) → row_among among key ≡ Some r → HasRow log key
   pub made : (j : ℕ) (key : ShardRef) → j < i → slice_get keys j ≡ Some key → HasRow log key
   pub few : taken_count log ≤ length h
 
--- The row of the key waits to be drained: in the journal `log`, it is still the row that the survey showed (`among`).
--- This row is as a row can be before its drain (`IsFresh`).
+-- The key's row is as the survey showed it (`among`), and can be drained (`IsFresh`).
 pub record Waits (h : List Turn) (among : List Row) (log : Journal) (key : ShardRef) : Type 0 where
   pub now : Row
   pub there : row log key ≡ Some now
   pub seen : row_among among key ≡ Some now
   pub fresh : IsFresh h key now
 
--- The drain has drained the rows of the first `i` keys, and the rows of the other keys wait (`Waits`). The number of
--- tenures is at most the number of turns of `h`, the history before the drain, plus `i`.
+-- The rows of the first `i` keys are drained, with one tenure each at most, and the others wait.
 pub record AreDrainedTo (h : List Turn) (keys : List ShardRef) (among : List Row) (i : ℕ) (log : Journal) : Type 0 where
   pub done : (j : ℕ) (key : ShardRef) → j < i → slice_get keys j ≡ Some key → IsDone h key (row log key)
   pub waits : (j : ℕ) (key : ShardRef) → i ≤ j → slice_get keys j ≡ Some key → Waits h among log key

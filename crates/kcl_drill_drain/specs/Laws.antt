@@ -16,11 +16,7 @@ use Rattle.kcl_drill_laws.specs.Leasing.{AreOnLeases, HasSameFloors, HasSameStre
 use Rattle.kcl_drill_laws.specs.Parents.{AreFewRecords, AreParentsClosed}
 use Rattle.kcl_drill_drain.specs.Draining.{IsFresh}
 
--- Facts about the history `h` before a drain. In each stream, the shards are numbered from 0 on, the parents of shards
--- are closed, and the records have rising sequence numbers and bounded sizes. Live streams have the numbers of streams
--- that were made. Each row is as a row can be before its drain (`IsFresh`). There are at most as many tenures as turns,
--- and few enough records (`AreFewRecords`). Further turns on leases change no stream, and, as long as the clock isn't
--- above `c`, no trim floor.
+-- Facts about the history `h` before a drain; further turns on leases change no stream and no trim floor up to `c`.
 pub record HasLaws (h : List Turn) (c : ℕ) : Type 0 where
   pub numbered : (s : ℕ) → AreNumbered 0 (shards (journal h) s)
   pub drawn : (s sh : ℕ) → AreDrawn (journal h) s sh

@@ -1,5 +1,4 @@
--- Which turns a machine has answered after those of a history `h`: only turns on leases, all of one actor at one
--- moment. `stands` holds for each history that the machine may have answered.
+-- What a machine has answered since a history `h`: only turns on leases, all of one actor at one moment.
 use Rattle.std.specs.Prelude.{ℕ, ◌≡◌, max, List, ◌∷◌, ◌++◌, Result, IfOk}
 use Rattle.kds_defs.specs.declared.command.Command.{Command}
 use Rattle.kds_defs.specs.declared.command.Turn.{Turn}
@@ -10,43 +9,38 @@ use Rattle.kds_defs.specs.Journal.{Journal}
 use Rattle.kcl_drill.specs.Summed.{AreDrained}
 use Rattle.kcl_drill_laws.specs.Closed.{AreLeased}
 
--- The machine has answered the history `h` and then only lawful turns on leases, of the actor `by` at the moment `at`.
-pub record HasLeased (stands : List Turn → Type 0) (by at : ℕ) (h : List Turn) : Type 0 where
+-- The machine has answered a history and then only lawful turns on leases, by one actor at one moment.
+pub record HasLeased (stands : List Turn → Type 0) (actor moment : ℕ) (h : List Turn) : Type 0 where
   pub more : List Turn
   pub stands_now : stands (more ++ h)
-  pub are : AreLeased by at more
+  pub are : AreLeased actor moment more
 
--- `stood` says which histories the machine stood for before a call, and `stands` says which ones it stands for after
--- the call. If the machine had answered only turns on leases since a history `h` before the call (`HasLeased`), this is
--- also true after the call.
-abbrev pub KeepsLeased : (List Turn → Type 0) → (List Turn → Type 0) → ℕ → ℕ → Type 0
-KeepsLeased stood stands by at = (h : List Turn) → HasLeased stood by at h → HasLeased stands by at h
+-- If only turns on leases came since a history `h` before the call, this is still so after it.
+abbrev pub KeepsLeased : (stood stands : List Turn → Type 0) (actor moment : ℕ) → Type 0
+KeepsLeased stood stands actor moment = (h : List Turn) → HasLeased stood actor moment h
+    → HasLeased stands actor moment h
 
--- The machine has answered the history `h` and then only lawful turns on leases, of the actor `by` at the moment `at`.
--- After these turns, `P` is true of the journal, and the clock is the greater of the clock of `h` and `at`.
-pub record Leads (stands : List Turn → Type 0) (by at : ℕ) (h : List Turn) (P : Journal → Type 0) : Type 0 where
+-- Turns on leases since `h` led to a journal with `P`, at the later of its clock and `moment`.
+pub record Leads (stands : List Turn → Type 0) (actor moment : ℕ) (h : List Turn) (P : Journal → Type 0) : Type 0 where
   pub more : List Turn
   pub stands_now : stands (more ++ h)
-  pub are : AreLeased by at more
-  pub late : clock (more ++ h) ≡ max (clock h) at
+  pub are : AreLeased actor moment more
+  pub late : clock (more ++ h) ≡ max (clock h) moment
   pub so : P (journal (more ++ h))
 
--- The machine has answered the history `h` and then only lawful turns on leases, of the actor `by` at the moment `at`.
--- After these turns, each listed shard is drained (`AreDrained`).
-pub record HasDrained (stands : List Turn → Type 0) (by at : ℕ) (h : List Turn) : Type 0 where
+-- Turns on leases since `h` led to a journal in which each listed shard is drained.
+pub record HasDrained (stands : List Turn → Type 0) (actor moment : ℕ) (h : List Turn) : Type 0 where
   pub more : List Turn
   pub stands_now : stands (more ++ h)
-  pub are : AreLeased by at more
+  pub are : AreLeased actor moment more
   pub drained : AreDrained (journal (more ++ h)) (clock (more ++ h))
 
--- The command `what` as a turn of the actor `by` at the moment `at`.
-abbrev pub turn_of : ℕ → ℕ → Command → Turn
-turn_of by at what = record { by = by; at = at; what = what }
+-- The command `command` as a turn of the actor `actor` at the moment `moment`.
+abbrev pub turn_of : (actor moment : ℕ) (command : Command) → Turn
+turn_of actor moment command = record { by = actor; at = moment; what = command }
 
--- A call gave the turn `turn` to the machine. Take any history that the machine stood for before the call (`stands`).
--- If the result is Ok, it has the answer by the definitions, and the machine now stands for this history with the turn
--- added (`stands'`).
-abbrev pub Answers : {E : Type 0} → (List Turn → Type 0) → (List Turn → Type 0) → Turn → Result (Result Reply Refusal) E
-    → Type 0
+-- The call's result, if Ok, has the turn's answer, and the machine now stands for the history with the turn.
+abbrev pub Answers : {E : Type 0}
+    → (stands stands' : List Turn → Type 0) (turn : Turn) (result : Result (Result Reply Refusal) E) → Type 0
 Answers stands stands' turn result = (now : List Turn) → stands now
     → IfOk result (λ a. (a ≡ answer now turn) × stands' (turn ∷ now))

@@ -21,7 +21,7 @@ pub fn ask<M: Machine>(
     requires lawful { IsLawfulCommand what }
     ensures ok { Answers (M.stands_for machine.old) (M.stands_for machine.new) (turn_of by at what) result }
     ensures moment { at < 2 ^ 62 }
-    ensures leased { KeepsLeased (M.stands_for machine.old) (M.stands_for machine.new) by at }
+    ensures kept { KeepsLeased (M.stands_for machine.old) (M.stands_for machine.new) by at }
 {
     let _ms = at.ms();
     machine.apply(Turn { by, at, what })

@@ -22,7 +22,7 @@ fn make_missing<M: Machine>(
     survey: &Answer,
 ) -> Result<(), Memory>
     ensures ok { Makes (M.stands_for machine.old) (M.stands_for machine.new) by at survey.now result }
-    ensures leased { KeepsLeased (M.stands_for machine.old) (M.stands_for machine.new) by at }
+    ensures kept { KeepsLeased (M.stands_for machine.old) (M.stands_for machine.new) by at }
 {
     match survey {
         Ok(Reply::Survey { shards, rows }) => {
@@ -41,7 +41,7 @@ fn drain_listed<M: Machine>(
     survey: &Answer,
 ) -> Result<(), Memory>
     ensures ok { Drains (M.stands_for machine.old) (M.stands_for machine.new) by at survey.now result }
-    ensures leased { KeepsLeased (M.stands_for machine.old) (M.stands_for machine.new) by at }
+    ensures kept { KeepsLeased (M.stands_for machine.old) (M.stands_for machine.new) by at }
 {
     match survey {
         Ok(Reply::Survey { shards, rows }) => {

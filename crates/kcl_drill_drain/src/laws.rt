@@ -9,7 +9,7 @@ ghost use Rattle.kcl_drill_drain.specs.Laws.{HasLaws};
 /// States the facts `HasLaws`. These are facts about every history that can be drained (`CanDrain`), and about the
 /// commands on leases that follow such a history. A history is the list of the commands that a machine has answered.
 pub fn drain_laws()
-    ensures { (h : List Turn) (at : ℕ) → CanDrain h at → HasLaws h (max (clock h) at) }
+    ensures { (h : List Turn) (moment : ℕ) → CanDrain h moment → HasLaws h (max (clock h) moment) }
 {
     kcl_laws::step();
     kcl_laws::checkpoints();

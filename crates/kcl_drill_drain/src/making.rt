@@ -20,7 +20,7 @@ fn make_row<M: Machine>(
     seen: Option<Row>,
 ) -> Result<(), Memory>
     ensures ok { MakesRow (M.stands_for machine.old) (M.stands_for machine.new) by at key seen result }
-    ensures leased { KeepsLeased (M.stands_for machine.old) (M.stands_for machine.new) by at }
+    ensures kept { KeepsLeased (M.stands_for machine.old) (M.stands_for machine.new) by at }
 {
     laws::drain_laws();
     if seen.is_none() {
@@ -39,7 +39,7 @@ pub fn make_keys<M: Machine>(
     among: &[Row],
 ) -> Result<(), Memory>
     ensures ok { MakesKeys (M.stands_for machine.old) (M.stands_for machine.new) by at keys.now among.now result }
-    ensures leased { KeepsLeased (M.stands_for machine.old) (M.stands_for machine.new) by at }
+    ensures kept { KeepsLeased (M.stands_for machine.old) (M.stands_for machine.new) by at }
 {
     for key in keys {
         make_row(machine, by, at, *key, row_among(among, key))?;

@@ -66,7 +66,7 @@ fn mark_last<M: Machine>(
     last: Option<Seq>,
 ) -> Result<u64, Memory>
     ensures ok { MarksLast (M.stands_for machine.old) (M.stands_for machine.new) by at held.now last result }
-    ensures leased { KeepsLeased (M.stands_for machine.old) (M.stands_for machine.new) by at }
+    ensures kept { KeepsLeased (M.stands_for machine.old) (M.stands_for machine.new) by at }
 {
     laws::drain_laws();
     match last {
@@ -88,7 +88,7 @@ fn finish_or_continue<M: Machine>(
     ended: bool,
 ) -> Result<Option<DrainTenure>, Memory>
     ensures ok { Settles (M.stands_for machine.old) (M.stands_for machine.new) by at position held ended result }
-    ensures leased { KeepsLeased (M.stands_for machine.old) (M.stands_for machine.new) by at }
+    ensures kept { KeepsLeased (M.stands_for machine.old) (M.stands_for machine.new) by at }
     ensures rises { IfOk result (λ o. IfSome o (λ next. position < next.position)) }
 {
     laws::drain_laws();
@@ -112,7 +112,7 @@ fn deliver<M: Machine>(
     fetch: &Fetch,
 ) -> Result<Option<DrainTenure>, Memory>
     ensures ok { Delivers (M.stands_for machine.old) (M.stands_for machine.new) by at held.now fetch.now result }
-    ensures leased { KeepsLeased (M.stands_for machine.old) (M.stands_for machine.new) by at }
+    ensures kept { KeepsLeased (M.stands_for machine.old) (M.stands_for machine.new) by at }
     ensures rises { IfOk result (λ o. IfSome o (λ next. held.now.position < next.position)) }
 {
     laws::drain_laws();
@@ -136,7 +136,7 @@ fn read_batch<M: Machine>(
     tally: &mut Tally,
 ) -> Result<Option<DrainTenure>, Memory>
     ensures ok { StepsOn (M.stands_for machine.old) (M.stands_for machine.new) by at held.now result }
-    ensures leased { KeepsLeased (M.stands_for machine.old) (M.stands_for machine.new) by at }
+    ensures kept { KeepsLeased (M.stands_for machine.old) (M.stands_for machine.new) by at }
     ensures rises { IfOk result (λ o. IfSome o (λ next. held.now.position < next.position)) }
 {
     let answer = read(machine, by, at, held)?;
@@ -154,7 +154,7 @@ pub fn read_on<M: Machine>(
     from: DrainTenure,
 ) -> Result<(), Memory>
     ensures ok { ReadsToEnd (M.stands_for machine.old) (M.stands_for machine.new) by at from result }
-    ensures leased { KeepsLeased (M.stands_for machine.old) (M.stands_for machine.new) by at }
+    ensures kept { KeepsLeased (M.stands_for machine.old) (M.stands_for machine.new) by at }
 {
     let mut tally = Tally::new();
     let mut held = from;

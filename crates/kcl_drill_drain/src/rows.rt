@@ -19,7 +19,7 @@ fn drain_taken<M: Machine>(
     counter: u64,
 ) -> Result<(), Memory>
     ensures ok { DrainsTaken (M.stands_for machine.old) (M.stands_for machine.new) by at key counter result }
-    ensures leased { KeepsLeased (M.stands_for machine.old) (M.stands_for machine.new) by at }
+    ensures kept { KeepsLeased (M.stands_for machine.old) (M.stands_for machine.new) by at }
 {
     match take(machine, by, at, key, counter)? {
         Some(held) => {
@@ -40,7 +40,7 @@ fn drain_row<M: Machine>(
     row: Option<Row>,
 ) -> Result<(), Memory>
     ensures ok { DrainsRow (M.stands_for machine.old) (M.stands_for machine.new) by at key row result }
-    ensures leased { KeepsLeased (M.stands_for machine.old) (M.stands_for machine.new) by at }
+    ensures kept { KeepsLeased (M.stands_for machine.old) (M.stands_for machine.new) by at }
 {
     laws::drain_laws();
     match row {
@@ -65,7 +65,7 @@ pub fn drain_keys<M: Machine>(
     among: &[Row],
 ) -> Result<(), Memory>
     ensures ok { DrainsKeys (M.stands_for machine.old) (M.stands_for machine.new) by at keys.now among.now result }
-    ensures leased { KeepsLeased (M.stands_for machine.old) (M.stands_for machine.new) by at }
+    ensures kept { KeepsLeased (M.stands_for machine.old) (M.stands_for machine.new) by at }
 {
     for key in keys {
         drain_row(machine, by, at, *key, row_among(among, key))?;

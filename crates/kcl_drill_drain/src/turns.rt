@@ -56,7 +56,7 @@ pub fn take<M: Machine>(
     counter: u64,
 ) -> Result<Option<DrainTenure>, Memory>
     ensures ok { Takes (M.stands_for machine.old) (M.stands_for machine.new) by at key counter result }
-    ensures leased { KeepsLeased (M.stands_for machine.old) (M.stands_for machine.new) by at }
+    ensures kept { KeepsLeased (M.stands_for machine.old) (M.stands_for machine.new) by at }
 {
     laws::drain_laws();
     kcl_drill_laws::held_answers();
@@ -79,7 +79,7 @@ pub fn open<M: Machine>(
     held: &DrainTenure,
 ) -> Result<(), Memory>
     ensures ok { Opens (M.stands_for machine.old) (M.stands_for machine.new) by at held.now result }
-    ensures leased { KeepsLeased (M.stands_for machine.old) (M.stands_for machine.new) by at }
+    ensures kept { KeepsLeased (M.stands_for machine.old) (M.stands_for machine.new) by at }
 {
     laws::drain_laws();
     kcl_drill_laws::held_answers();
@@ -97,7 +97,7 @@ pub fn read<M: Machine>(
     held: &DrainTenure,
 ) -> Result<Answer, Memory>
     ensures ok { Reads (M.stands_for machine.old) (M.stands_for machine.new) by at held.now result }
-    ensures leased { KeepsLeased (M.stands_for machine.old) (M.stands_for machine.new) by at }
+    ensures kept { KeepsLeased (M.stands_for machine.old) (M.stands_for machine.new) by at }
 {
     laws::drain_laws();
     kcl_drill_laws::held_answers();
@@ -118,7 +118,7 @@ pub fn give<M: Machine>(
     held: &DrainTenure,
 ) -> Result<(), Memory>
     ensures ok { Gives (M.stands_for machine.old) (M.stands_for machine.new) by at held.now result }
-    ensures leased { KeepsLeased (M.stands_for machine.old) (M.stands_for machine.new) by at }
+    ensures kept { KeepsLeased (M.stands_for machine.old) (M.stands_for machine.new) by at }
 {
     kcl_drill_laws::held_answers();
     kcl_drill_laws::held_states();
@@ -137,7 +137,7 @@ pub fn mark<M: Machine>(
     to: Target,
 ) -> Result<u64, Memory>
     ensures ok { Marks (M.stands_for machine.old) (M.stands_for machine.new) by at held.now to result }
-    ensures leased { KeepsLeased (M.stands_for machine.old) (M.stands_for machine.new) by at }
+    ensures kept { KeepsLeased (M.stands_for machine.old) (M.stands_for machine.new) by at }
 {
     laws::drain_laws();
     kcl_drill_laws::held_answers();

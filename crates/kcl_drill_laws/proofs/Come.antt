@@ -17,23 +17,15 @@ use Rattle.kds_defs.specs.Records.{position_after}
 use Rattle.kds_defs.proofs.Keys.{key_itself}
 use Rattle.kcl_drill_laws.specs.Holding.{Holding, Holds, after_give, after_mark, after_read, begun_from, given_line}
 use Rattle.kcl_drill_laws.specs.Holding.{marked_line, opened_line, read_line, taken_line}
+use Rattle.kcl_laws.proofs.CheckpointLemmas.{positions_append}
 
 -- ---- Lists of reads
 
--- The position after the reads `rs` and then the read `r` is the position after `r`, counted on from the position after
--- `rs`.
-positions_append : (p : ℕ) (rs : List ReadDone) (r : ReadDone)
-    → position_after_reads p (rs ++ r ∷ []) ≡ position_after (position_after_reads p rs) r.numbers
-positions_append p [] r = refl
-positions_append p (q ∷ rs) r = positions_append (position_after p q.numbers) rs r
-
--- The last read of a list says whether the list ended the shard.
 last_one : (rs : List ReadDone) (r : ReadDone) → last_ended (rs ++ r ∷ []) ≡ r.ended
 last_one [] r = refl
 last_one (q ∷ []) r = refl
 last_one (q ∷ s ∷ rs) r = last_one (s ∷ rs) r
 
--- If `r` is the first read after the first `n`, the first `n` + 1 reads are the first `n` and `r`.
 take_more : (n : ℕ) (rs : List ReadDone) (r : ReadDone) (rest : List ReadDone) → drop n rs ≡ r ∷ rest
     → take (suc n) rs ≡ take n rs ++ r ∷ []
 take_more zero [] r rest is = absurd cc
@@ -41,8 +33,6 @@ take_more zero (q ∷ rs) r rest is = let e : q ≡ r = cc in ap (λ x. x ∷ []
 take_more (suc n) [] r rest is = absurd cc
 take_more (suc n) (q ∷ rs) r rest is = ap (λ qs. q ∷ qs) (take_more n rs r rest is)
 
--- If `r` is the first read after the first `n`, and `rest` are the others, then `rest` are those after the first `n` +
--- 1.
 drop_more : (n : ℕ) (rs : List ReadDone) (r : ReadDone) (rest : List ReadDone) → drop n rs ≡ r ∷ rest
     → drop (suc n) rs ≡ rest
 drop_more zero [] r rest is = absurd cc
@@ -50,7 +40,6 @@ drop_more zero (q ∷ rs) r rest is = let e : rs ≡ rest = cc in e
 drop_more (suc n) [] r rest is = absurd cc
 drop_more (suc n) (q ∷ rs) r rest is = drop_more n rs r rest is
 
--- If there is a read after the first `n`, there are at least `n` + 1 reads.
 some_more : (n : ℕ) (rs : List ReadDone) (r : ReadDone) (rest : List ReadDone) → drop n rs ≡ r ∷ rest
     → suc n ≤ length rs
 some_more zero [] r rest is = absurd cc
@@ -60,14 +49,12 @@ some_more (suc n) (q ∷ rs) r rest is = let e = some_more n rs r rest is in ome
 
 -- ---- The given reads after a give
 
--- If `r` is the first read that isn't given, then after a give the given reads are those from before the give, and `r`.
 pub one_more_given : (T : TenureState) (r : ReadDone) (rest : List ReadDone) → drop T.given T.reads ≡ r ∷ rest
     → given_reads (with_given T) ≡ given_reads T ++ r ∷ []
 one_more_given T r rest is =
     let e : T.given + 1 ≡ suc T.given = omega arith in
     ap (λ n. take n T.reads) e ∙ take_more T.given T.reads r rest is
 
--- If `r` is the first read that isn't given, then after a give the delivered position is the one after `r`.
 pub given_position : (T : TenureState) (r : ReadDone) (rest : List ReadDone) → drop T.given T.reads ≡ r ∷ rest
     → delivered (with_given T) ≡ position_after (delivered T) r.numbers
 given_position T r rest is = ap (position_after_reads (start_position T.start)) (one_more_given T r rest is)
@@ -75,18 +62,16 @@ given_position T r rest is = ap (position_after_reads (start_position T.start)) 
 
 -- ---- A take and an opening
 
--- After the line of a take, the new tenure is the actor's and of the key, and begins at the row's checkpoint.
-pub begun_tenure : (log : Journal) (c by owner : ℕ) (key : ShardRef) (r : Row) → row log key ≡ Some r
-    → tenure (taken_line log c by key r owner ∷ log) (taken_count log + 1) ≡ Some (new_tenure by key r.checkpoint)
-begun_tenure log c by owner key r there =
-    ap (λ b. if b then Some (new_tenure by key (checkpoint_in (row log key))) else tenure log (taken_count log + 1))
+pub begun_tenure : (log : Journal) (c actor owner : ℕ) (key : ShardRef) (r : Row) → row log key ≡ Some r
+    → tenure (taken_line log c actor key r owner ∷ log) (taken_count log + 1) ≡ Some (new_tenure actor key r.checkpoint)
+begun_tenure log c actor owner key r there =
+    ap (λ b. if b then Some (new_tenure actor key (checkpoint_in (row log key))) else tenure log (taken_count log + 1))
     (is_itself (taken_count log + 1))
-    ∙ ap (λ k. Some (new_tenure by key k)) (ap checkpoint_in there)
+    ∙ ap (λ k. Some (new_tenure actor key k)) (ap checkpoint_in there)
 
--- After the line of a take, the row is the taken one, and names the new tenure.
-pub begun_row : (log : Journal) (c by owner : ℕ) (key : ShardRef) (r : Row) → row log key ≡ Some r
-    → row (taken_line log c by key r owner ∷ log) key ≡ Some (taken_row (taken_count log + 1) owner r)
-begun_row log c by owner key r there =
+pub begun_row : (log : Journal) (c actor owner : ℕ) (key : ShardRef) (r : Row) → row log key ≡ Some r
+    → row (taken_line log c actor key r owner ∷ log) key ≡ Some (taken_row (taken_count log + 1) owner r)
+begun_row log c actor owner key r there =
     ap (λ b. if b then option_map (taken_row (taken_count log + 1) owner) (row log key) else row log key)
     (key_itself key)
     ∙ ap (option_map (taken_row (taken_count log + 1) owner)) there
@@ -95,17 +80,16 @@ told : (t : ℕ) (o : Option TenureState) (T : TenureState) (f : TenureState →
     → (if t == t then option_map f o else o) ≡ Some (f T)
 told t o T f is = ap (λ b. if b then option_map f o else o) (is_itself t) ∙ ap (option_map f) is
 
--- After the lines of a take and of the opening of the shard, the new tenure and its row are as `begun_from` says.
-pub begun_holds : (log : Journal) (c d by owner : ℕ) (key : ShardRef) (r : Row) → row log key ≡ Some r
-    → Holds (opened_line log d by ∷ taken_line log c by key r owner ∷ log) (begun_from log by key r)
-begun_holds log c d by owner key r there =
+pub begun_holds : (log : Journal) (c d actor owner : ℕ) (key : ShardRef) (r : Row) → row log key ≡ Some r
+    → Holds (opened_line log d actor ∷ taken_line log c actor key r owner ∷ log) (begun_from log actor key r)
+begun_holds log c d actor owner key r there =
     let t = taken_count log + 1 in
-    let now = taken_line log c by key r owner ∷ log in
+    let now = taken_line log c actor key r owner ∷ log in
     record {
       tenure = record {
-        state = with_opened (new_tenure by key r.checkpoint);
-        begun = told t (tenure now t) (new_tenure by key r.checkpoint) with_opened
-            (begun_tenure log c by owner key r there);
+        state = with_opened (new_tenure actor key r.checkpoint);
+        begun = told t (tenure now t) (new_tenure actor key r.checkpoint) with_opened
+            (begun_tenure log c actor owner key r there);
         took = ap (λ b. if b then Some key else key_of log t) (is_itself t);
         own = refl;
         of_key = refl;
@@ -118,7 +102,7 @@ begun_holds log c d by owner key r there =
       };
       row = record {
         now = taken_row t owner r;
-        there = begun_row log c by owner key r there;
+        there = begun_row log c actor owner key r there;
         of_tenure = refl;
         counted = refl;
         checkpoint = refl;
@@ -128,7 +112,6 @@ begun_holds log c d by owner key r there =
 
 -- ---- A read, a give and a mark
 
--- After the line of the read `r`, the tenure is as `after_read` says.
 pub read_holds : (log : Journal) (c limit : ℕ) (x : Holding) (r : ReadDone) → Holds log x
     → Holds (read_line c x limit r ∷ log) (after_read x r)
 read_holds log c limit x r holds =
@@ -160,7 +143,6 @@ read_holds log c limit x r holds =
       };
     }
 
--- After the line of the give of `r`, the first read that waits, the tenure is as `after_give` says.
 pub give_holds : (log : Journal) (c : ℕ) (x : Holding) (r : ReadDone) (rest : List ReadDone) → Holds log x
     → x.waiting ≡ r ∷ rest → Holds (given_line c x ∷ log) (after_give x r rest)
 give_holds log c x r rest holds first =
@@ -193,10 +175,9 @@ give_holds log c x r rest holds first =
       };
     }
 
--- After the line of a mark at the target `to`, the tenure and its row are as `after_mark` says.
-pub mark_holds : (log : Journal) (c : ℕ) (x : Holding) (to : Target) → Holds log x
-    → Holds (marked_line c x to ∷ log) (after_mark x to)
-mark_holds log c x to holds =
+pub mark_holds : (log : Journal) (c : ℕ) (x : Holding) (target : Target) → Holds log x
+    → Holds (marked_line c x target ∷ log) (after_mark x target)
+mark_holds log c x target holds =
     let has = holds.tenure in
     let held = holds.row in
     record {
@@ -215,9 +196,9 @@ mark_holds log c x to holds =
             has.last;
       };
       row = record {
-        now = marked_row to held.now;
-        there = ap (λ b. if b then option_map (marked_row to) (row log x.key) else row log x.key)
-            (ap (λ o. is_key o x.key) has.took ∙ key_itself x.key) ∙ ap (option_map (marked_row to)) held.there;
+        now = marked_row target held.now;
+        there = ap (λ b. if b then option_map (marked_row target) (row log x.key) else row log x.key)
+            (ap (λ o. is_key o x.key) has.took ∙ key_itself x.key) ∙ ap (option_map (marked_row target)) held.there;
         of_tenure = held.of_tenure;
         counted = ap (λ m. m + 1) held.counted;
         checkpoint = refl;

@@ -1,5 +1,4 @@
--- Each turn adds at most one line about a lease, and such a line raises a row's counter, or the number of tenures, by
--- at most one. So neither is above the number of turns (`AreCounted`).
+-- Each turn adds at most one line about a lease, so counters and tenures are at most as many as turns.
 use Rattle.std.proofs.Common.{◌≡◌, ℕ, ◌+◌, ◌≤◌, Bool, true, false, List, [], ◌∷◌, length, Option, Some, None, refl}
 use Rattle.std.proofs.Common.{arith}
 use Rattle.std.specs.Prelude.{Result, if◌then◌else◌}
@@ -34,15 +33,12 @@ abbrev leases : List Line → ℕ
 leases [] = 0
 leases (line ∷ ls) = weight line.what + leases ls
 
--- After lines are added to a journal, the journal has as many lines about leases as the lines and the old journal
--- together.
 leases_with : (ls : List Line) (log : Journal) → leases (with_lines ls log) ≡ leases ls + leases log
 leases_with [] log = omega arith
 leases_with (line ∷ ls) log = let n = leases_with ls (line ∷ log) in omega arith
 
 -- ---- The lines of a decision
 
--- If none of the lines is about a lease, at most one of them is.
 none_of : (ls : List Line) → AllByRecursion (λ line. weight line.what ≡ 0) ls → leases ls ≤ 1
 none_of ls none = let n = none_in ls none in omega arith
   where
@@ -54,22 +50,20 @@ one : (e : Entry) → weight e + 0 ≤ 1
 one (entry.Made stream name shards) = omega arith
 one _ = omega arith
 
--- Each command adds at most one line about a lease.
-few : (log : Journal) (c by : ℕ) (what : Command) (lines : List Line) (answer : Result Reply Refusal)
-    → Outcome log c by what lines answer → leases lines ≤ 1
-few log c by _ _ _ (Refuses what r may) = omega arith
-few log c by _ _ _ (Answers what r shows) = omega arith
-few log c by _ _ _ (Adds what line r tells) = one line.what
-few log c by _ _ _ (Stores name items s named fits) =
-    none_of _ (each_put (λ line. weight line.what ≡ 0) c by s items log (λ before n item among. refl))
-few log c by _ _ _ (Scales name goal s named room fits) =
-    none_of _ (each_step (λ line. weight line.what ≡ 0) c by s (steps_to log s goal) log (λ sh other n child. refl)
-    (λ sh at n low high. refl))
+few : (log : Journal) (c actor : ℕ) (command : Command) (lines : List Line) (answer : Result Reply Refusal)
+    → Outcome log c actor command lines answer → leases lines ≤ 1
+few log c actor _ _ _ (Refuses command r may) = omega arith
+few log c actor _ _ _ (Answers command r shows) = omega arith
+few log c actor _ _ _ (Adds command line r tells) = one line.what
+few log c actor _ _ _ (Stores name items s named fits) =
+    none_of _ (each_put (λ line. weight line.what ≡ 0) c actor s items log (λ is_before n item among. refl))
+few log c actor _ _ _ (Scales name goal s named room fits) =
+    none_of _ (each_step (λ line. weight line.what ≡ 0) c actor s (steps_to log s goal) log (λ sh other n child. refl)
+    (λ sh is_at n low high. refl))
 
-decided_few : (log : Journal) (c by : ℕ) (what : Command) → leases (lines_of (decide log c by what)) ≤ 1
-decided_few log c by what = few log c by what _ _ (walk log c by what)
+decided_few : (log : Journal) (c actor : ℕ) (command : Command) → leases (lines_of (decide log c actor command)) ≤ 1
+decided_few log c actor command = few log c actor command _ _ (walk log c actor command)
 
--- A history leaves at most as many lines about leases as it has turns.
 turns_few : (h : List Turn) → leases (journal h) ≤ length h
 turns_few [] = omega arith
 turns_few (turn ∷ h) =
@@ -86,11 +80,10 @@ raised f true None n keeps le = omega arith
 raised f true (Some x) n keeps le = omega (arith, keeps x, le)
 raised f false o n keeps le = omega arith
 
--- If a line is about a lease, it raises the counter of a row by at most 1. Any other line doesn't raise the counter.
 counter_by : (log : Journal) (line : Line) (e : Entry) (key : ShardRef) (o : Option Row) (n : ℕ) → counter_in o ≤ n
     → counter_in (row_after log line e key o) ≤ weight e + n
-counter_by log line (entry.LeaseMade k from) key o n le =
-    cond_both (same_key k key) (Some (made_row log line.clock key from)) o (λ p. counter_in p ≤ 1 + n)
+counter_by log line (entry.LeaseMade k origin) key o n le =
+    cond_both (same_key k key) (Some (made_row log line.clock key origin)) o (λ p. counter_in p ≤ 1 + n)
     (λ own. omega arith) (λ other. omega arith)
 counter_by log line (entry.LeaseCut k counter) key o n le =
     cond_both (same_key k key) None o (λ p. counter_in p ≤ 1 + n) (λ own. omega arith) (λ other. omega arith)
@@ -100,27 +93,22 @@ counter_by log line (entry.Renewed tenure counter) key o n le =
     raised renewed_row (is_key (key_of log tenure) key) o n (λ x. refl) le
 counter_by log line (entry.Freed tenure counter) key o n le =
     raised freed_row (is_key (key_of log tenure) key) o n (λ x. refl) le
-counter_by log line (entry.Marked tenure counter to) key o n le =
-    raised (marked_row to) (is_key (key_of log tenure) key) o n (λ x. refl) le
+counter_by log line (entry.Marked tenure counter target) key o n le =
+    raised (marked_row target) (is_key (key_of log tenure) key) o n (λ x. refl) le
 counter_by log line _ key o n le = omega arith
 
--- The counter of a row is at most the number of lines about leases.
 counter_few : (log : Journal) (key : ShardRef) → counter_in (row log key) ≤ leases log
 counter_few [] key = omega arith
 counter_few (line ∷ log) key = counter_by log line line.what key (row log key) (leases log) (counter_few log key)
 
--- If an entry is about a lease, it raises the number of tenures by at most 1. Any other entry doesn't raise this
--- number.
 taken_by : (e : Entry) (n m : ℕ) → n ≤ m → taken_count_after e n ≤ weight e + m
 taken_by (entry.Taken key tenure counter owner) n m le = omega arith
 taken_by _ n m le = omega arith
 
--- The number of tenures is at most the number of lines about leases.
 taken_few : (log : Journal) → taken_count log ≤ leases log
 taken_few [] = omega arith
 taken_few (line ∷ log) = taken_by line.what (taken_count log) (leases log) (taken_few log)
 
--- After each history, the counter of each row and the number of tenures are at most the number of turns.
 pub all_counted : (h : List Turn) → AreCounted h
 all_counted h = record {
   counters = λ key. omega (arith, counter_few (journal h) key, turns_few h);

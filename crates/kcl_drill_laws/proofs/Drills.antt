@@ -1,5 +1,4 @@
--- What is true of the history of a drill whose threads have ended: it is short, its clock is low, and its commands for
--- the stream service are those of the generator.
+-- A drill's history once its threads have ended: short, before 24 hours, with the generator's commands.
 use Rattle.std.proofs.Common.{◌≡◌, ℕ, zero, suc, ◌+◌, ◌*◌, ◌<◌, ◌≤◌, false, List, [], ◌∷◌, ◌++◌, length, map, Option}
 use Rattle.std.proofs.Common.{Some, None, refl, sym, ap}
 use Rattle.std.proofs.Common.{subst, ◌∙◌, arith, append_assoc, le_refl, length-append, length-take, take_all}
@@ -29,45 +28,36 @@ use Rattle.kcl_drill_threads.specs.Feeding.{HasFed, HasFedSoFar}
 use Rattle.kcl_drill_laws.specs.Closed.{AreDrillTurns, IsClosed, IsDrillCommand, IsFew, IsMemberAccount, IsStopped}
 use Rattle.kcl_drill_laws.specs.Closed.{all_accounts}
 use Rattle.kcl_drill_laws.proofs.Accounts.{all_turns, clock_by, count_of, few_turns}
+use Rattle.kcl_laws.proofs.Batches.{all_push}
 
 -- ---- The commands of turns
 
--- The commands as turns of one actor have these commands.
-commands_of : (by : ℕ) (cs : List Command) → commands_in (map (turn_of by) cs) ≡ cs
-commands_of by [] = refl
-commands_of by (c ∷ cs) = ap (λ xs. c ∷ xs) (commands_of by cs)
+commands_of : (actor : ℕ) (cs : List Command) → commands_in (map (turn_of actor) cs) ≡ cs
+commands_of actor [] = refl
+commands_of actor (c ∷ cs) = ap (λ xs. c ∷ xs) (commands_of actor cs)
 
--- If `P` is true of each command as a turn, it is true of each of the turns.
-all_asked : (P : Turn → Type 0) (by : ℕ) (cs : List Command) → AllByRecursion (λ what. P (turn_of by what)) cs
-    → AllByRecursion P (map (turn_of by) cs)
-all_asked P by [] are = tt
-all_asked P by (c ∷ cs) are = (are.0, all_asked P by cs are.1)
+all_asked : (P : Turn → Type 0) (actor : ℕ) (cs : List Command) → AllByRecursion (λ asked. P (turn_of actor asked)) cs
+    → AllByRecursion P (map (turn_of actor) cs)
+all_asked P actor [] are = tt
+all_asked P actor (c ∷ cs) are = (are.0, all_asked P actor cs are.1)
 
--- If `P` is true of each element of a list and of `x`, it is true of each element of the list with `x` at its end.
-all_last : (P : Command → Type 0) (xs : List Command) (x : Command) → AllByRecursion P xs → P x
-    → AllByRecursion P (xs ++ x ∷ [])
-all_last P [] x are is = (is, tt)
-all_last P (y ∷ xs) x are is = (are.0, all_last P xs x are.1 is)
-
--- If `P` is true of each element of a list, it is true of each element of the reversed list.
 all_reverse : (P : Command → Type 0) (xs : List Command) → AllByRecursion P xs → AllByRecursion P (reverse xs)
 all_reverse P [] are = tt
 all_reverse P (x ∷ xs) are =
     subst (AllByRecursion P) (sym (reverse-append (x ∷ []) xs))
-    (all_last P (reverse xs) x (all_reverse P xs are.1) are.0)
+    (all_push P (reverse xs) x (all_reverse P xs are.1) are.0)
 
-always : (P : Command → Type 0) (xs : List Command) → ((what : Command) → P what) → AllByRecursion P xs
+always : (P : Command → Type 0) (xs : List Command) → ((asked : Command) → P asked) → AllByRecursion P xs
 always P [] is = tt
 always P (x ∷ xs) is = (is x, always P xs is)
 
--- If a drill may give the commands `more`, it may also give these commands with the command of a plan in front.
 plan_is : (o : Option Plan) (more : List Command) → AllByRecursion IsDrillCommand more
     → AllByRecursion IsDrillCommand (with_plan o more)
 plan_is None more are = are
 plan_is (Some (Split x)) more are = (tt, are)
 plan_is (Some (Merge x y)) more are = (tt, are)
 
--- The commands of a generator after CreateStream are ones that a drill may give (`IsDrillCommand`).
+-- The commands of a generator after CreateStream are commands that a drill may give.
 records_are : (i left x : ℕ) (opens : Opens) → AllByRecursion IsDrillCommand (from_record i left x opens)
 records_are i zero x opens = tt
 records_are i (suc left) x opens = (
@@ -78,16 +68,12 @@ records_are i (suc left) x opens = (
 
 -- ---- The turns of the members
 
--- Let there be at most `n` turns, all of them on leases, and the k-th at k ticks. If `P` is true of each turn on leases
--- up to the moment of `n` ticks, `P` is true of each of these turns.
 at_most : (P : Turn → Type 0) (n : ℕ) (turns : List Turn) → length turns ≤ n → AreOnLeasesAt 50 turns
     → ((t : Turn) → t.at ≤ n * 50 → is_service t.what ≡ false → P t) → AllByRecursion P turns
-at_most P n [] few on is = tt
-at_most P n (t ∷ turns) few on is =
-    (is t (omega (arith, few, on.0.0)) on.0.1, at_most P n turns (omega arith) on.1 is)
+at_most P n [] few is_on is = tt
+at_most P n (t ∷ turns) few is_on is =
+    (is t (omega (arith, few, is_on.0.0)) is_on.0.1, at_most P n turns (omega arith) is_on.1 is)
 
--- Let `P` be true of each turn on leases up to the moment of the last turn that a member may make. Then `P` is true of
--- each turn of each member.
 member_turns : (P : Turn → Type 0) (records : ℕ) (members : List Account) → records ≤ 1000000
     → AllByRecursion (IsMemberAccount records) members
     → ((t : Turn) → t.at ≤ 30600 * 50 → is_service t.what ≡ false → P t)
@@ -98,7 +84,6 @@ member_turns P records (a ∷ rest) limit ran is = (
   member_turns P records rest limit ran.1 is,
 )
 
--- The members together have at most 30,600 turns for each member.
 members_count : (records : ℕ) (members : List Account) → records ≤ 1000000 → AllByRecursion (IsFew records) members
     → count_of members ≤ length members * 30600
 members_count records [] limit ran = omega arith
@@ -106,7 +91,6 @@ members_count records (a ∷ rest) limit ran =
     let more = members_count records rest limit ran.1 in
     omega (arith, ran.0, limit, more)
 
--- The accounts of members whose runs have ended have few enough turns (`IsFew`).
 are_few : (records : ℕ) (members : List Account) → AllByRecursion (IsMemberAccount records) members
     → AllByRecursion (IsFew records) members
 are_few records [] ran = tt
@@ -114,12 +98,10 @@ are_few records (a ∷ rest) ran = (ran.0.most, are_few records rest ran.1)
 
 -- ---- The number of commands
 
--- The command of a plan makes a list of commands at most one longer.
 with_one : (o : Option Plan) (more : List Command) → length (with_plan o more) ≤ length more + 1
 with_one None more = omega arith
 with_one (Some p) more = omega arith
 
--- A generator gives at most two commands for each record after CreateStream.
 pub few_commands : (i left x : ℕ) (opens : Opens) → length (from_record i left x opens) ≤ 2 * left
 few_commands i zero x opens = omega arith
 few_commands i (suc left) x opens =
@@ -128,25 +110,23 @@ few_commands i (suc left) x opens =
     let one = with_one (plan (i + 1) (draw x) opens) (from_record (i + 1) left (draw x) next) in
     omega (arith, rest)
 
-length_asked : (by : ℕ) (cs : List Command) → length (turns_of by cs) ≡ length cs
-length_asked by cs = length-map (reverse cs) (turn_of by) ∙ length-reverse cs
+length_asked : (actor : ℕ) (cs : List Command) → length (turns_of actor cs) ≡ length cs
+length_asked actor cs = length-map (reverse cs) (turn_of actor) ∙ length-reverse cs
 
--- If the turns are those of the first `n` commands, they are at most as many as the commands.
-few_begun : (by n : ℕ) (cs : List Command) (own : List Turn) → own ≡ turns_of by (take n cs) → length own ≤ length cs
-few_begun by n cs own e =
-    let asked : length own ≡ length (take n cs) = ap length e ∙ length_asked by (take n cs) in
+few_begun : (actor n : ℕ) (cs : List Command) (own : List Turn) → own ≡ turns_of actor (take n cs)
+    → length own ≤ length cs
+few_begun actor n cs own e =
+    let asked : length own ≡ length (take n cs) = ap length e ∙ length_asked actor (take n cs) in
     omega (arith, asked, length-take n cs)
 
 -- ---- A drill whose threads may have ended early
 
--- If a pass made all of the commands `cs`, it made them up to some command.
 begun : (cs : List Command) (p : PassValue) → HasAsked cs p → HasBegun cs p
 begun cs p asked = (
   length cs,
   subst (λ made. HasAsked made p) (sym (take_all (length cs) cs (le_refl (length cs)))) asked,
 )
 
--- If the root and the feeder made all of their commands, they made them up to some command (`HasFedSoFar`).
 pub fed_so_far : (number records : ℕ) (root feeder : PassValue) → HasFed number records root feeder
     → HasFedSoFar number records root feeder
 fed_so_far number records root feeder fed = record {
@@ -155,7 +135,6 @@ fed_so_far number records root feeder fed = record {
   after = λ some. fed.after;
 }
 
--- The history of a drill whose threads may have ended early has fewer than 2^32 turns.
 pub is_short_stopped : (number records : ℕ) (root feeder : PassValue) (members : List Account) (h : List Turn)
     → IsStopped number records root feeder members h
     → length h < 2 ^ 32
@@ -170,14 +149,13 @@ is_short_stopped number records root feeder members h is =
 
 -- ---- A drill whose threads ended without an error
 
--- If an actor has no turn in a history, it has none in the older part `seen` of this history.
 none_before : (n : ℕ) (front seen : List Turn) → turns_by n (front ++ seen) ≡ [] → turns_by n seen ≡ []
 none_before n front seen none =
     let total : length (turns_by n front ++ turns_by n seen) ≡ 0 =
     ap length (sym (filter-append (is_by n) front seen) ∙ none) in
     nil_from_length (turns_by n seen) (omega (arith, total, length-append (turns_by n front) (turns_by n seen)))
 
--- In this module, `h` is the history of a drill whose threads ended without an error (`IsClosed`).
+-- All threads of the drill ended without an error (`IsClosed`).
 module _ (number records : ℕ) (root feeder : PassValue) (members : List Account) (h : List Turn)
     (is : IsClosed number records root feeder members h) where
   -- The command of the root, which makes the stream.
@@ -188,7 +166,6 @@ module _ (number records : ℕ) (root feeder : PassValue) (members : List Accoun
   abbrev rest : List Command
   rest = from_record 0 records number first_open
 
-  -- The feeder made no turn before the root's.
   none_older : (own : List Turn) → feeder.own ≡ own → turns_by feeder.by is.fed.after.older ≡ []
   none_older [] e =
       let front = is.seen.0 ++ (is.fed.after.newer ++ root.own) in
@@ -203,30 +180,26 @@ module _ (number records : ℕ) (root feeder : PassValue) (members : List Accoun
   abbrev IsOther : Turn → Type 0
   IsOther turn = (turn.by == root.by) ≡ false → (turn.by == feeder.by) ≡ false → is_service turn.what ≡ false
 
-  not_root : (what : Command) → IsOther (turn_of root.by what)
-  not_root what a b = let t = sym a ∙ is_itself root.by in absurd cc
+  not_root : (asked : Command) → IsOther (turn_of root.by asked)
+  not_root asked a b = let t = sym a ∙ is_itself root.by in absurd cc
 
-  not_feeder : (what : Command) → IsOther (turn_of feeder.by what)
-  not_feeder what a b = let t = sym b ∙ is_itself feeder.by in absurd cc
+  not_feeder : (asked : Command) → IsOther (turn_of feeder.by asked)
+  not_feeder asked a b = let t = sym b ∙ is_itself feeder.by in absurd cc
 
-  -- Each turn of the history is the root's turn, the turn of one of the feeder's commands, or a turn of a member. If
-  -- `P` is true of all these turns, it is true of each turn of the history.
   each_turn : (P : Turn → Type 0) → P (turn_of root.by create)
-      → AllByRecursion (λ what. P (turn_of feeder.by what)) rest
+      → AllByRecursion (λ asked. P (turn_of feeder.by asked)) rest
       → AllByRecursion (λ a. AllByRecursion P a.turns) members → AllByRecursion P h
   each_turn P of_root of_feeder of_members =
       let first : AllByRecursion P root.own = subst (AllByRecursion P) (sym is.fed.of_root) (of_root, tt) in
       let others : AllByRecursion P feeder.own = subst (AllByRecursion P) (sym is.fed.of_feeder)
-      (all_asked P feeder.by (reverse rest) (all_reverse (λ what. P (turn_of feeder.by what)) rest of_feeder)) in
+      (all_asked P feeder.by (reverse rest) (all_reverse (λ asked. P (turn_of feeder.by asked)) rest of_feeder)) in
       all_turns P (all_accounts root feeder members) h is.own is.all (first, (others, of_members))
 
   leased : (P : Turn → Type 0) → ((t : Turn) → t.at ≤ 30600 * 50 → is_service t.what ≡ false → P t)
       → AllByRecursion (λ a. AllByRecursion P a.turns) members
-  -- Let `P` be true of each turn on leases up to the moment of the last turn that a member may make. Then `P` is true
-  -- of each turn of each member.
-  leased P of = member_turns P records members is.limit is.ran of
+  leased P is_of = member_turns P records members is.limit is.ran is_of
 
-  -- The root made the first command, and the feeder made the others after the root's turn, in order (`IsFed`).
+  -- The root made the first command, and the feeder made the others after it, in order.
   pub is_fed : IsFed number records root.by feeder.by h
   is_fed =
       record {
@@ -243,11 +216,11 @@ module _ (number records : ℕ) (root feeder : PassValue) (members : List Accoun
         made = ap commands_in (is.own.0 ∙ is.fed.of_root);
         fed = ap commands_in (is.own.1.0 ∙ is.fed.of_feeder) ∙ commands_of feeder.by (reverse rest);
         after = none_older feeder.own refl;
-        others = each_turn IsOther (not_root create) (always (λ what. IsOther (turn_of feeder.by what)) rest not_feeder)
+        others = each_turn IsOther (not_root create)
+            (always (λ asked. IsOther (turn_of feeder.by asked)) rest not_feeder)
             (leased IsOther (λ t below service a b. service));
       }
 
-  -- The history has fewer than 2^32 turns.
   pub is_short : length h < 2 ^ 32
   is_short = is_short_stopped number records root feeder members h (record {
     limit = is.limit;
@@ -258,21 +231,19 @@ module _ (number records : ℕ) (root feeder : PassValue) (members : List Accoun
     own = is.own;
   })
 
-  -- The clock of the history is below 24 hours, so nothing is trimmed.
+  -- The clock is below 24 hours, so nothing is trimmed.
   pub is_below : clock h < LEAST_RETENTION
   is_below =
       let most = clock_by 1530000 h
-      (each_turn (λ t. t.at ≤ 1530000) (omega arith) (always (λ what. 0 ≤ 1530000) rest (λ _. omega arith))
+      (each_turn (λ t. t.at ≤ 1530000) (omega arith) (always (λ asked. 0 ≤ 1530000) rest (λ _. omega arith))
       (leased (λ t. t.at ≤ 1530000) (λ t below service. below))) in
       omega arith
 
-  -- The turns of the members are ones that a drill may make.
   horizons : (xs : List Account) → AllByRecursion (IsMemberAccount records) xs
       → AllByRecursion (λ a. AreDrillTurns a.turns) xs
   horizons [] ran = tt
   horizons (a ∷ xs) ran = (ran.0.horizon, horizons xs ran.1)
 
-  -- All turns of the history are ones that a drill may make (`AreDrillTurns`).
   pub are_drill_turns : AreDrillTurns h
   are_drill_turns = each_turn (λ t. IsDrillCommand t.what) tt (records_are 0 records number first_open)
       (horizons members is.ran)

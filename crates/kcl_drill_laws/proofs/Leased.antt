@@ -1,5 +1,4 @@
--- Turns on leases change no stream of the journal, and no trim floor at a clock that isn't below the clock of these
--- turns.
+-- Turns on leases change no stream, and no trim floor at their clock or later.
 use Rattle.std.proofs.Common.{◌≡◌, ℕ, ◌≤◌, false, List, [], ◌∷◌, ◌++◌, None, refl, ◌∙◌, arith}
 use Rattle.std.specs.List.{AllByRecursion, filter, find}
 use Rattle.kds_defs.proofs.Elsewhere.{SameStream, count_same, floor_same, of_no_stream, same_again, same_along}
@@ -14,26 +13,25 @@ use Rattle.kds_defs.specs.Subjects.{stream_of}
 use Rattle.kds_defs.proofs.Walk.{IsAdded, Alone, Makes, each_line}
 use Rattle.kcl_drill_laws.specs.Leasing.{AreOnLeases, HasSameStreams}
 
--- Each of the lines is about a lease, at the clock `c`.
+-- Each line is about a lease, at the clock `c`.
 abbrev AreLeases : ℕ → List Line → Type 0
 AreLeases c ls = AllByRecursion (λ l. (stream_of l.what ≡ None) × (l.clock ≡ c)) ls
 
-lease_line : (log : Journal) (c by : ℕ) (what : Command) (line : Line) → IsAdded log c by what line
-    → is_service what ≡ false
+lease_line : (log : Journal) (c actor : ℕ) (command : Command) (line : Line) → IsAdded log c actor command line
+    → is_service command ≡ false
     → (stream_of line.what ≡ None) × (line.clock ≡ c)
-lease_line log c by _ _ (Alone _ _ _ (Makes key from)) is = (refl, refl)
-lease_line log c by _ _ _ is = (cc, refl)
+lease_line log c actor _ _ (Alone _ _ _ (Makes key start)) is = (refl, refl)
+lease_line log c actor _ _ _ is = (cc, refl)
 
--- The lines that a command on leases adds are about leases, at the clock `c` of the command.
-lease_adds : (log : Journal) (c by : ℕ) (what : Command) → is_service what ≡ false
-    → AreLeases c (lines_of (decide log c by what))
-lease_adds log c by what is =
-    each_line (λ l. (stream_of l.what ≡ None) × (l.clock ≡ c)) log c by what
-    (λ line added. lease_line log c by what line added is)
+lease_adds : (log : Journal) (c actor : ℕ) (command : Command) → is_service command ≡ false
+    → AreLeases c (lines_of (decide log c actor command))
+lease_adds log c actor command is =
+    each_line (λ l. (stream_of l.what ≡ None) × (l.clock ≡ c)) log c actor command
+    (λ line added. lease_line log c actor command line added is)
 
 -- ---- What lines about leases leave unchanged
 
--- In both journals, the same number of streams was made, and both journals say the same of each stream.
+-- Both journals made the same number of streams, and say the same of each.
 record SameReadings (log log' : Journal) : Type 0 where
   count : made_count log ≡ made_count log'
   each : (s : ℕ) → SameStream log log' s
@@ -51,22 +49,20 @@ lines_same c [] log log' are same = same
 lines_same c (line ∷ ls) log log' are same =
     lines_same c ls (line ∷ log) log' are.1 (line_same log log' line are.0.0 same)
 
--- After turns on leases, the journal says the same of each stream as before them.
 turns_same : (more h : List Turn) → AreOnLeases more → SameReadings (journal (more ++ h)) (journal h)
 turns_same [] h are = record { count = refl; each = same_again (journal h) }
 turns_same (turn ∷ more) h are =
     let log = journal (more ++ h) in
-    let at = clock (turn ∷ (more ++ h)) in
-    lines_same at (lines_of (decision log at turn)) log (journal h) (lease_adds log at turn.by turn.what are.0)
+    let moment = clock (turn ∷ (more ++ h)) in
+    lines_same moment (lines_of (decision log moment turn)) log (journal h)
+    (lease_adds log moment turn.by turn.what are.0)
     (turns_same more h are.1)
 
 -- ---- The streams
 
--- If two journals say the same of each stream, they have the same live streams.
 live_same : (log log' : Journal) → SameReadings log log' → live_streams log ≡ live_streams log'
 live_same log log' same = λ i. filter (λ s. (same.each s).live i) (numbers_from 1 (same.count i))
 
--- After turns on leases, the journal has the same streams as before them (`HasSameStreams`).
 pub streams_same : (more h : List Turn) → AreOnLeases more → HasSameStreams (journal (more ++ h)) (journal h)
 streams_same more h are =
     let same = turns_same more h are in
@@ -82,7 +78,6 @@ streams_same more h are =
 
 -- ---- The trim floors
 
--- After turns on leases, a stream is live exactly if it was before them.
 pub live_stays : (more h : List Turn) → AreOnLeases more → (s : ℕ)
     → is_live (journal (more ++ h)) s ≡ is_live (journal h) s
 live_stays more h are s = ((turns_same more h are).each s).live
@@ -94,13 +89,11 @@ trim_lines d (line ∷ ls) log c s are le =
     let same = same_stream log line s (of_no_stream line.what s are.0.0) in
     trim_lines d ls (line ∷ log) c s are.1 le ∙ floor_same log line s c (omega (arith, are.0.1, le)) same.hours_are
 
--- If a clock `c` isn't below the clock after turns on leases, each stream has the same trim floor at `c` after these
--- turns as before them.
 pub floor_stays : (more h : List Turn) (c : ℕ) → AreOnLeases more → clock (more ++ h) ≤ c → (s : ℕ)
     → trim_floor (journal (more ++ h)) c s ≡ trim_floor (journal h) c s
 floor_stays [] h c are le s = refl
 floor_stays (turn ∷ more) h c are le s =
     let log = journal (more ++ h) in
-    let at = clock (turn ∷ (more ++ h)) in
-    trim_lines at (lines_of (decision log at turn)) log c s (lease_adds log at turn.by turn.what are.0) le
+    let moment = clock (turn ∷ (more ++ h)) in
+    trim_lines moment (lines_of (decision log moment turn)) log c s (lease_adds log moment turn.by turn.what are.0) le
     ∙ floor_stays more h c are.1 (omega arith) s

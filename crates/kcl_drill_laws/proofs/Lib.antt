@@ -1,5 +1,5 @@
 mod Accounts
-mod AfterClose
+pub mod AfterClose
 mod Answered
 mod Come
 mod Counts

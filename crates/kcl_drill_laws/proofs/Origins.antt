@@ -23,38 +23,35 @@ use Rattle.kcl_drill_laws.specs.Closed.{AreDrillTurns, AreFromHorizon, IsDrillCo
 
 -- If the entry makes a row, the row has the origin TRIM_HORIZON.
 abbrev IsSoMade : Entry → Type 0
-IsSoMade (entry.LeaseMade key from) = from ≡ origin.TrimHorizon
+IsSoMade (entry.LeaseMade key beginning) = beginning ≡ origin.TrimHorizon
 IsSoMade _ = Unit {0}
 
--- Each of the lines that makes a row gives it the origin TRIM_HORIZON.
+-- Each line that makes a row gives it the origin TRIM_HORIZON.
 abbrev AreSoMade : List Line → Type 0
 AreSoMade ls = AllByRecursion (λ line. IsSoMade line.what) ls
 
 -- ---- The lines that a command adds
 
--- If a new row is asked to have the origin TRIM_HORIZON, it gets this origin.
-pub counts_so : (log : Journal) (key : ShardRef) (from : Origin) → from ≡ origin.TrimHorizon
-    → counting_origin log key from ≡ origin.TrimHorizon
-counts_so log key from is =
-    cond_both (follows_parent log key) origin.TrimHorizon from (λ o. o ≡ origin.TrimHorizon) (λ follows. refl)
+-- A new row asked to have the origin TRIM_HORIZON gets it, also after a parent.
+pub counts_so : (log : Journal) (key : ShardRef) (beginning : Origin) → beginning ≡ origin.TrimHorizon
+    → counting_origin log key beginning ≡ origin.TrimHorizon
+counts_so log key beginning is =
+    cond_both (follows_parent log key) origin.TrimHorizon beginning (λ o. o ≡ origin.TrimHorizon) (λ follows. refl)
     (λ new. is)
 
--- If a line that a drill's command adds makes a row, this row has the origin TRIM_HORIZON.
-command_adds : (log : Journal) (c by : ℕ) (what : Command) (line : Line) → IsAdded log c by what line
-    → IsDrillCommand what → IsSoMade line.what
-command_adds log c by _ _ (Alone _ _ _ (walks.Makes key from)) is = counts_so log key from is
-command_adds log c by _ _ _ is = tt
+command_adds : (log : Journal) (c actor : ℕ) (command : Command) (line : Line) → IsAdded log c actor command line
+    → IsDrillCommand command → IsSoMade line.what
+command_adds log c actor _ _ (Alone _ _ _ (walks.Makes key beginning)) is = counts_so log key beginning is
+command_adds log c actor _ _ _ is = tt
 
 -- ---- All lines of the journal
 
--- If a line in the journal of a drill's history makes a row, this row has the origin TRIM_HORIZON.
 journal_so : (h : List Turn) → AreDrillTurns h → AreSoMade (journal h)
 journal_so h are =
     each_journal (λ line. IsSoMade line.what) (λ turn. IsDrillCommand turn.what)
     (λ log c turn is line added. command_adds log c turn.by turn.what line added is)
     h are
 
--- The origin is None or TRIM_HORIZON.
 IsNoneOrSo : Option Origin → Type 0
 IsNoneOrSo o = (o ≡ None) ⊎ (o ≡ Some origin.TrimHorizon)
 
@@ -65,36 +62,32 @@ either_so false x y is other = other
 after_so : (e : Entry) (key : ShardRef) (o : Option Origin) → IsSoMade e → IsNoneOrSo o
     → IsNoneOrSo (origin_after e key o)
 unfolding IsNoneOrSo
-after_so (entry.LeaseMade k from) key o is before = either_so (same_key k key) (Some from) o (inr (ap Some is)) before
-after_so (entry.LeaseCut k counter) key o is before = either_so (same_key k key) None o (inl refl) before
-after_so _ key o is before = before
+after_so (entry.LeaseMade k beginning) key o is is_before =
+    either_so (same_key k key) (Some beginning) o (inr (ap Some is)) is_before
+after_so (entry.LeaseCut k counter) key o is is_before = either_so (same_key k key) None o (inl refl) is_before
+after_so _ key o is is_before = is_before
 
--- If each line that makes a row gives it the origin TRIM_HORIZON, then the origin of each key's row is TRIM_HORIZON or
--- None.
 origin_so : (log : Journal) (key : ShardRef) → AreSoMade log → IsNoneOrSo (origin_of log key)
 unfolding IsNoneOrSo
 origin_so [] key are = inl refl
 origin_so (line ∷ log) key are = after_so line.what key (origin_of log key) are.0 (origin_so log key are.1)
 
--- The first of two laws that the lemmas take as given: a key for which no row was made, or whose row was removed, has
--- no row.
+-- The law, taken as given, that a key whose row wasn't made, or was removed, has no row.
 abbrev pub Removes : Type 0
 Removes = (log : Journal) (key : ShardRef) → making (last_bound log key) ≡ None → row log key ≡ None
 
--- The second of these laws: a row that was made is as the lines about it determine (`IsToldRow`).
+-- The law, taken as given, that a row that was made is as the lines about it determine.
 abbrev pub Makes : Type 0
 Makes = (log : Journal) (key : ShardRef) (m : Making) → making (last_bound log key) ≡ Some m → IsToldRow log key m
 
--- If a key has the row `r`, this row was made (`m` says how). So the row's origin isn't None, and must be TRIM_HORIZON.
 by_making : (log : Journal) (key : ShardRef) (r : Row) → Removes → Makes → IsNoneOrSo (origin_of log key)
     → row log key ≡ Some r → (m : Option Making)
     → making (last_bound log key) ≡ m → origin_of log key ≡ Some origin.TrimHorizon
 unfolding IsNoneOrSo
 by_making log key r removes makes (inr is) there m e = is
 by_making log key r removes makes (inl none) there None e = let gone = removes log key e in absurd cc
-by_making log key r removes makes (inl none) there (Some m) e = let told = (makes log key m e).origin in absurd cc
+by_making log key r removes makes (inl none) there (Some m) e = let is_told = (makes log key m e).origin in absurd cc
 
--- After the history of a drill, each row was made with the origin TRIM_HORIZON (`AreFromHorizon`).
 pub from_horizon : Removes → Makes → (h : List Turn) → AreDrillTurns h → AreFromHorizon (journal h)
 from_horizon removes makes h are key r there =
     by_making (journal h) key r removes makes (origin_so (journal h) key (journal_so h are)) there

@@ -1,5 +1,4 @@
--- Each turn adds at most 500 records, since one PutRecords may put 500. So a shard has at most 500 records for each
--- turn (`AreFewRecords`).
+-- One PutRecords puts at most 500 records, so a shard has at most 500 records for each turn.
 use Rattle.std.proofs.Common.{◌≡◌, ℕ, ◌+◌, ◌≤◌, List, [], ◌∷◌, ◌++◌, length, refl, arith, ◌*◌, suc}
 use Rattle.std.specs.List.{AllByRecursion}
 use Rattle.std.specs.Prelude.{Result, ◌==◌, ◌&&◌}
@@ -32,21 +31,20 @@ abbrev puts : List Line → ℕ
 puts [] = 0
 puts (line ∷ ls) = weight line.what + puts ls
 
--- After lines are added to a journal, the journal has as many puts as the lines and the old journal together.
 puts_with : (ls : List Line) (log : Journal) → puts (with_lines ls log) ≡ puts ls + puts log
 puts_with [] log = omega arith
 puts_with (line ∷ ls) log = let n = puts_with ls (line ∷ log) in omega arith
 
 -- ---- The lines of a decision
 
--- A put of several items adds at most as many puts as there are items.
-few_puts : (items : List NewItem) (log : Journal) (c by s : ℕ) → puts (put_lines log c by s items) ≤ length items
-few_puts [] log c by s = omega arith
-few_puts (item ∷ items) log c by s =
-    let line = put_line log c by s (next_number log s) item in
-    let skip = few_puts items log c by s in
-    let take = few_puts items (line ∷ log) c by s in
-    cond_both (is_held_back log c s item) (put_lines log c by s items) (line ∷ put_lines (line ∷ log) c by s items)
+few_puts : (items : List NewItem) (log : Journal) (c actor s : ℕ) → puts (put_lines log c actor s items) ≤ length items
+few_puts [] log c actor s = omega arith
+few_puts (item ∷ items) log c actor s =
+    let line = put_line log c actor s (next_number log s) item in
+    let skip = few_puts items log c actor s in
+    let take = few_puts items (line ∷ log) c actor s in
+    cond_both (is_held_back log c s item) (put_lines log c actor s items)
+    (line ∷ put_lines (line ∷ log) c actor s items)
     (λ ls. puts ls ≤ suc (length items)) (λ back. omega arith) (λ goes. omega arith)
 
 no_steps : (ls : List Line) → AllByRecursion (λ line. weight line.what ≡ 0) ls → puts ls ≡ 0
@@ -57,25 +55,24 @@ one : (e : Entry) → weight e + 0 ≤ 500
 one (entry.Put stream shard number hash bytes key_bytes) = omega arith
 one _ = omega arith
 
--- A command whose values are in the ranges of the API adds at most 500 puts.
-few : (log : Journal) (c by : ℕ) (what : Command) (lines : List Line) (answer : Result Reply Refusal)
-    → Outcome log c by what lines answer
-    → IsLawfulCommand what → puts lines ≤ 500
-few log c by _ _ _ (Refuses what r may) lawful = omega arith
-few log c by _ _ _ (Answers what r shows) lawful = omega arith
-few log c by _ _ _ (Adds what line r tells) lawful = one line.what
-few log c by _ _ _ (Stores name items s named fits) lawful = omega (arith, few_puts items log c by s, lawful.1.few)
-few log c by _ _ _ (Scales name goal s named room fits) lawful =
-    let none = each_step (λ line. weight line.what ≡ 0) c by s (steps_to log s goal) log (λ sh other n child. refl)
-    (λ sh at n low high. refl) in
-    let n = no_steps (step_lines log c by s (steps_to log s goal)) none in
+few : (log : Journal) (c actor : ℕ) (command : Command) (lines : List Line) (answer : Result Reply Refusal)
+    → Outcome log c actor command lines answer
+    → IsLawfulCommand command → puts lines ≤ 500
+few log c actor _ _ _ (Refuses command r may) lawful = omega arith
+few log c actor _ _ _ (Answers command r shows) lawful = omega arith
+few log c actor _ _ _ (Adds command line r tells) lawful = one line.what
+few log c actor _ _ _ (Stores name items s named fits) lawful =
+    omega (arith, few_puts items log c actor s, lawful.1.few)
+few log c actor _ _ _ (Scales name goal s named room fits) lawful =
+    let none = each_step (λ line. weight line.what ≡ 0) c actor s (steps_to log s goal) log (λ sh other n child. refl)
+    (λ sh is_at n low high. refl) in
+    let n = no_steps (step_lines log c actor s (steps_to log s goal)) none in
     omega arith
 
-decided_few : (log : Journal) (c by : ℕ) (what : Command) → IsLawfulCommand what
-    → puts (lines_of (decide log c by what)) ≤ 500
-decided_few log c by what lawful = few log c by what _ _ (walk log c by what) lawful
+decided_few : (log : Journal) (c actor : ℕ) (command : Command) → IsLawfulCommand command
+    → puts (lines_of (decide log c actor command)) ≤ 500
+decided_few log c actor command lawful = few log c actor command _ _ (walk log c actor command) lawful
 
--- A history leaves at most 500 puts for each of its turns.
 turns_few : (h : List Turn) → IsHistory h → puts (journal h) ≤ 500 * length h
 turns_few [] lawful = omega arith
 turns_few (turn ∷ h) lawful =
@@ -85,7 +82,7 @@ turns_few (turn ∷ h) lawful =
 
 -- ---- The records of a shard
 
--- If a line is a put, it adds at most one record to a shard. Any other line adds none.
+-- A put adds at most one record to a shard, and any other line adds none.
 records_by : (l : Line) (e : Entry) (s sh n : ℕ) (rs : List Logged) → length rs ≤ n
     → length (records_after l e s sh rs) ≤ weight e + n
 records_by l (entry.Put stream shard number hash bytes key_bytes) s sh n rs le =
@@ -105,6 +102,5 @@ records_few : (log : Journal) (s sh : ℕ) → length (records log s sh) ≤ put
 records_few [] s sh = omega arith
 records_few (l ∷ log) s sh = records_by l l.what s sh (puts log) (records log s sh) (records_few log s sh)
 
--- After each history, a shard has at most 500 records for each turn (`AreFewRecords`).
 pub few_records : (h : List Turn) → IsHistory h → AreFewRecords h
 few_records h lawful s sh = omega (arith, records_few (journal h) s sh, turns_few h lawful)

@@ -1,5 +1,4 @@
--- A tenure that is used by its actor alone: how far it has come with its reads, and its row (Kinesis Client Library,
--- leases). A tenure is one worker's hold on a lease, and a row is the item of the lease in the lease table.
+-- A tenure that its actor alone uses: how far its reads have come, and its row (Kinesis Client Library, leases).
 use Rattle.std.specs.Prelude.{ℕ, ◌≡◌, ◌+◌, ◌≤◌, ◌==◌, Bool, true, false, nat_le, nat_lt, List, [], ◌∷◌, ◌++◌, drop}
 use Rattle.std.specs.Prelude.{length, Some}
 use Rattle.kds_base.specs.declared.lease_key.Checkpoint.{Checkpoint}
@@ -20,9 +19,7 @@ use Rattle.kds_defs.specs.Records.{batch, numbers_of, position_after}
 use Rattle.kds_defs.specs.Shards.{shard_at}
 use Rattle.kds_defs.specs.StreamCommands.{last_number}
 
--- How far the tenure of a key has come. `position` is the position after the tenure's reads, `done` is the position
--- after its given reads, and `waiting` are its reads that wait to be given. `ended` says whether the last given read
--- ended the shard. The counter, the checkpoint and the floor are those of the key's row.
+-- How far a tenure has come (read to `position`, given to `done`), and its row's counter, checkpoint and floor.
 pub record Holding : Type 0 where
   pub by : ℕ
   pub key : ShardRef
@@ -35,7 +32,7 @@ pub record Holding : Type 0 where
   pub checkpoint : Checkpoint
   pub floor : ℕ
 
--- The key's row in the journal names the tenure, and has the counter, the checkpoint and the floor of `x`.
+-- The key's row names the tenure, and has the counter, the checkpoint and the floor of `x`.
 pub record HasRow (log : Journal) (x : Holding) : Type 0 where
   pub now : Row
   pub there : row log x.key ≡ Some now
@@ -44,8 +41,7 @@ pub record HasRow (log : Journal) (x : Holding) : Type 0 where
   pub checkpoint : now.checkpoint ≡ x.checkpoint
   pub floor : now.floor ≡ x.floor
 
--- In the journal, the tenure of `x` belongs to the actor and to the key of `x`. Its shard was opened, and it has read
--- and given as far as `x` says.
+-- The tenure belongs to the actor and the key of `x`, is opened, and has read and given as far as `x` says.
 pub record HasCome (log : Journal) (x : Holding) : Type 0 where
   pub state : TenureState
   pub begun : tenure log x.tenure ≡ Some state
@@ -59,105 +55,96 @@ pub record HasCome (log : Journal) (x : Holding) : Type 0 where
   pub waits : drop state.given state.reads ≡ x.waiting
   pub last : last_ended (given_reads state) ≡ x.ended
 
--- In the journal `log`, the tenure has come as far as `x` says (`HasCome`), and its row is as `x` says (`HasRow`).
+-- The tenure has come as far as this `Holding` says, and its row is as it says.
 pub record Holds (log : Journal) (x : Holding) : Type 0 where
   pub tenure : HasCome log x
   pub row : HasRow log x
 
 -- ---- What the tenure and its row allow
 
--- The tenure may mark its row at the target. For a sequence number `q`, the row isn't at SHARD_END. `q` is below the
--- position after the given reads, and at or above the least number that the row allows. For the shard's end, the last
--- given read ended the shard.
-abbrev pub MayMark : Holding → Target → Type 0
+-- A mark at `q` lies from the least number to what was given, before SHARD_END; at End, the end must be given.
+abbrev pub MayMark : (x : Holding) (target : Target) → Type 0
 MayMark x (target.At q) = (is_end x.checkpoint ≡ false) × (nat_le x.done q ≡ false)
     × (nat_lt q (least x.checkpoint x.floor) ≡ false)
 MayMark x target.End = x.ended ≡ true
 
--- The row `r` can be taken: its checkpoint isn't SHARD_END, and neither its counter nor the number of tenures so far is
--- the last number.
-abbrev pub MayTake : Journal → Row → Type 0
+-- The row isn't at SHARD_END, and neither its counter nor the number of tenures is the last number.
+abbrev pub MayTake : (log : Journal) (r : Row) → Type 0
 MayTake log r = (is_end r.checkpoint ≡ false) × ((r.counter == last_number) ≡ false)
     × ((taken_count log == last_number) ≡ false)
 
--- The parents of the key's shard don't prevent the shard from being opened: each parent was read to its end, or isn't
--- listed at the clock `c`.
-abbrev pub ArePast : Journal → ℕ → ShardRef → Type 0
+-- Each parent of the key's shard was read to its end, or isn't listed at the clock `c`.
+abbrev pub ArePast : (log : Journal) (c : ℕ) (key : ShardRef) → Type 0
 ArePast log c key = (next : Decision) → past_parents log c key.stream (shard_at log key.stream key.shard) next ≡ next
 
 -- ---- The lines that the tenure's commands leave
 
--- The line of a take at the clock `c`: the actor `by` takes the row `r` of the key for the worker `owner`. The next
--- tenure begins with this line.
-abbrev pub taken_line : Journal → ℕ → ℕ → ShardRef → Row → ℕ → Line
-taken_line log c by key r owner = plain_line c by (entry.Taken key (taken_count log + 1) (r.counter + 1) owner)
+-- The line by which the actor `actor` takes the row for the worker `owner`, which begins the next tenure.
+abbrev pub taken_line : (log : Journal) (c actor : ℕ) (key : ShardRef) (r : Row) (owner : ℕ) → Line
+taken_line log c actor key r owner = plain_line c actor (entry.Taken key (taken_count log + 1) (r.counter + 1) owner)
 
--- A take right after the journal `log` begins a tenure. This is the line by which the actor `by` opens the shard of
--- this tenure, at the clock `c`.
-abbrev pub opened_line : Journal → ℕ → ℕ → Line
-opened_line log c by = plain_line c by (entry.Opened (taken_count log + 1))
+-- The line by which the actor `actor` opens the shard of the tenure that a take right after `log` began.
+abbrev pub opened_line : (log : Journal) (c actor : ℕ) → Line
+opened_line log c actor = plain_line c actor (entry.Opened (taken_count log + 1))
 
--- The line of the read `r` of the tenure, at the clock `c`. `limit` is the most records that the read may return.
-abbrev pub read_line : ℕ → Holding → ℕ → ReadDone → Line
+-- The line of the read `r` of at most `limit` records.
+abbrev pub read_line : (c : ℕ) (x : Holding) (limit : ℕ) (r : ReadDone) → Line
 read_line c x limit r = plain_line c x.by (entry.Read x.tenure limit r.ended r.numbers)
 
--- The line by which the tenure gives its first read that waits, at the clock `c`.
-abbrev pub given_line : ℕ → Holding → Line
+-- The line by which the tenure gives its first read that waits.
+abbrev pub given_line : (c : ℕ) (x : Holding) → Line
 given_line c x = plain_line c x.by (entry.Given x.tenure)
 
--- The line by which the tenure marks its row at the target `to`, at the clock `c`. The mark raises the row's counter by
--- one.
-abbrev pub marked_line : ℕ → Holding → Target → Line
-marked_line c x to = plain_line c x.by (entry.Marked x.tenure (x.counter + 1) to)
+-- The line by which the tenure marks its row at the target `goal`, raising the counter by one.
+abbrev pub marked_line : (c : ℕ) (x : Holding) (goal : Target) → Line
+marked_line c x goal = plain_line c x.by (entry.Marked x.tenure (x.counter + 1) goal)
 
--- The decision on a Read at the tenure's position, for at most `limit` records. The Read is accepted, with the batch at
--- this position.
-abbrev pub read_here : Journal → ℕ → Holding → ℕ → Decision
+-- The decision on a Read at the tenure's position: accepted, with the batch of at most `limit` records there.
+abbrev pub read_here : (log : Journal) (c : ℕ) (x : Holding) (limit : ℕ) → Decision
 read_here log c x limit =
     read_reply log c x.by x.tenure limit x.key (batch log c x.key.stream x.key.shard x.position limit)
     (position_after x.position (numbers_of (batch log c x.key.stream x.key.shard x.position limit)))
 
 -- ---- The answers to the commands
 
--- The Take of the row `r` by the actor `by` for the worker `owner` is accepted, and begins the next tenure at the row's
--- checkpoint.
-abbrev pub IsTakenSo : Journal → ℕ → ℕ → ℕ → ShardRef → Row → Type 0
-IsTakenSo log c by owner key r =
-    take_lease log c by key r.counter owner
-    ≡ Accepted (taken_line log c by key r owner ∷ []) (reply.Taken (taken_count log + 1) (r.counter + 1) r.checkpoint)
+-- The Take is accepted, and begins the next tenure at the row's checkpoint.
+abbrev pub IsTakenSo : (log : Journal) (c actor owner : ℕ) (key : ShardRef) (r : Row) → Type 0
+IsTakenSo log c actor owner key r =
+    take_lease log c actor key r.counter owner
+    ≡ Accepted (taken_line log c actor key r owner ∷ [])
+    (reply.Taken (taken_count log + 1) (r.counter + 1) r.checkpoint)
 
--- The shard of the key can be opened: it is listed, and its parents don't prevent it from being opened (`ArePast`).
-abbrev pub MayOpen : Journal → ℕ → ShardRef → Type 0
+-- The key's shard is listed, and each parent was read to its end or isn't listed (`ArePast`).
+abbrev pub MayOpen : (log : Journal) (c : ℕ) (key : ShardRef) → Type 0
 MayOpen log c key = (is_listed_key log c key ≡ true) × ArePast log c key
 
--- Right after the take of the row `r` at the clock `d`, the opening of the key's shard at the clock `c` is accepted.
-abbrev pub IsOpenedSo : Journal → ℕ → ℕ → ℕ → ℕ → ShardRef → Row → Type 0
-IsOpenedSo log c d by owner key r =
-    open_shard (taken_line log d by key r owner ∷ log) c by (taken_count log + 1)
-    ≡ Accepted (opened_line log c by ∷ []) reply.Done
+-- Right after the take at the clock `d`, the opening of the shard at the clock `c` is accepted.
+abbrev pub IsOpenedSo : (log : Journal) (c d actor owner : ℕ) (key : ShardRef) (r : Row) → Type 0
+IsOpenedSo log c d actor owner key r =
+    open_shard (taken_line log d actor key r owner ∷ log) c actor (taken_count log + 1)
+    ≡ Accepted (opened_line log c actor ∷ []) reply.Done
 
--- A Read at the tenure's position is accepted with the batch at this position, as `read_here` defines.
-abbrev pub IsReadSo : Journal → ℕ → Holding → ℕ → Type 0
+-- A Read at the tenure's position is accepted with the batch there (`read_here`).
+abbrev pub IsReadSo : (log : Journal) (c : ℕ) (x : Holding) (limit : ℕ) → Type 0
 IsReadSo log c x limit = read log c x.by x.tenure x.position limit ≡ read_here log c x limit
 
--- The Give of the read `r`, the first that waits, is accepted, and returns the position after this read.
-abbrev pub IsGivenSo : Journal → ℕ → Holding → ReadDone → Type 0
+-- The Give of the read `r`, the first that waits, is accepted, and returns the position after it.
+abbrev pub IsGivenSo : (log : Journal) (c : ℕ) (x : Holding) (r : ReadDone) → Type 0
 IsGivenSo log c x r =
     give log c x.by x.tenure ≡ Accepted (given_line c x ∷ []) (reply.Given (position_after x.done r.numbers))
 
--- The Mark of the row at the target `to` is accepted, and raises the row's counter by one.
-abbrev pub IsMarkedSo : Journal → ℕ → Holding → Target → Type 0
-IsMarkedSo log c x to =
-    mark log c x.by x.tenure x.counter to ≡ Accepted (marked_line c x to ∷ []) (reply.Counter (x.counter + 1))
+-- The Mark at the target `goal` is accepted, and raises the row's counter by one.
+abbrev pub IsMarkedSo : (log : Journal) (c : ℕ) (x : Holding) (goal : Target) → Type 0
+IsMarkedSo log c x goal =
+    mark log c x.by x.tenure x.counter goal ≡ Accepted (marked_line c x goal ∷ []) (reply.Counter (x.counter + 1))
 
 -- ---- How far the tenure has come after each command
 
--- The new tenure after the row `r` was taken and its shard was opened. Its position is where reading begins for the
--- row's checkpoint, and no read waits. `log` is the journal before the take.
-abbrev pub begun_from : Journal → ℕ → ShardRef → Row → Holding
-begun_from log by key r =
+-- The new tenure after a take right after `log` and the opening, at the row's checkpoint and without reads.
+abbrev pub begun_from : (log : Journal) (actor : ℕ) (key : ShardRef) (r : Row) → Holding
+begun_from log actor key r =
     record {
-      by = by;
+      by = actor;
       key = key;
       tenure = taken_count log + 1;
       position = start_position r.checkpoint;
@@ -169,14 +156,14 @@ begun_from log by key r =
       floor = r.floor;
     }
 
--- The tenure `x` after the read `r`, which is the last of those that wait to be given.
-abbrev pub after_read : Holding → ReadDone → Holding
+-- The tenure after the read `r`, which is the last that waits to be given.
+abbrev pub after_read : (x : Holding) (r : ReadDone) → Holding
 after_read x r = record x { position = position_after x.position r.numbers; waiting = x.waiting ++ (r ∷ []) }
 
--- The tenure `x` after the read `r` was given, and the reads `rest` still wait to be given.
-abbrev pub after_give : Holding → ReadDone → List ReadDone → Holding
+-- The tenure after the read `r` was given, with the reads `rest` still to be given.
+abbrev pub after_give : (x : Holding) (r : ReadDone) (rest : List ReadDone) → Holding
 after_give x r rest = record x { done = position_after x.done r.numbers; waiting = rest; ended = r.ended }
 
--- The tenure `x` after its row was marked at the target `to`.
-abbrev pub after_mark : Holding → Target → Holding
-after_mark x to = record x { counter = x.counter + 1; checkpoint = checkpoint_at to }
+-- The tenure after its row was marked at the target `goal`.
+abbrev pub after_mark : (x : Holding) (goal : Target) → Holding
+after_mark x goal = record x { counter = x.counter + 1; checkpoint = checkpoint_at goal }

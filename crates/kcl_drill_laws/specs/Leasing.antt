@@ -8,12 +8,11 @@ use Rattle.kds_defs.specs.Records.{next_number, records}
 use Rattle.kds_defs.specs.Shards.{shards}
 use Rattle.kds_defs.specs.Streams.{hours, is_live, live_streams, stream_named, trim_floor}
 
--- Each of the turns is on leases, and not for the stream service.
-abbrev pub AreOnLeases : List Turn → Type 0
+-- Each turn is on leases, and not for the stream service.
+abbrev pub AreOnLeases : (more : List Turn) → Type 0
 AreOnLeases more = AllByRecursion (λ turn. is_service turn.what ≡ false) more
 
--- The two journals have the same live streams, found by the same names. Each stream has the same shards, records, next
--- sequence number and retention in both.
+-- Both journals have the same live streams by the same names, with the same shards, records and retention.
 pub record HasSameStreams (log log' : Journal) : Type 0 where
   pub live : live_streams log ≡ live_streams log'
   pub named : (name : List ℕ) → stream_named log name ≡ stream_named log' name
@@ -22,7 +21,7 @@ pub record HasSameStreams (log log' : Journal) : Type 0 where
   pub next : (s : ℕ) → next_number log s ≡ next_number log' s
   pub hours : (s : ℕ) → hours log s ≡ hours log' s
 
--- In both journals, the same streams are live, and each stream has the same trim floor at the clock `c`.
+-- The same streams are live in both journals, with the same trim floors at the clock `c`.
 pub record HasSameFloors (c : ℕ) (log log' : Journal) : Type 0 where
   pub live : (s : ℕ) → is_live log s ≡ is_live log' s
   pub floors : (s : ℕ) → trim_floor log c s ≡ trim_floor log' c s

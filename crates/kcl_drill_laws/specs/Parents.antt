@@ -1,4 +1,4 @@
--- The parents of shards, the number of writes of a row, and the number of records of a shard.
+-- Parents of shards, writes of a row, and records of a shard.
 use Rattle.std.specs.Prelude.{ℕ, ◌≡◌, ◌*◌, ◌<◌, ◌≤◌, true, List, length, slice_get, Option, Some, None}
 use Rattle.std.specs.List.{AllByRecursion}
 use Rattle.kds_base.specs.declared.lease_key.ShardRef.{ShardRef}
@@ -10,25 +10,21 @@ use Rattle.kds_defs.specs.Listings.{is_closed_at}
 use Rattle.kds_defs.specs.Records.{records}
 use Rattle.kds_defs.specs.Shards.{ShardState}
 
--- The parent of the shard with the number `n`, if it has one (`o`), is a closed shard of the list `xs` with a smaller
--- number.
-abbrev pub IsParentClosed : List ShardState → ℕ → Option ℕ → Type 0
+-- The parent of the shard `n`, if any, is a closed shard of `xs` with a smaller number.
+abbrev pub IsParentClosed : (xs : List ShardState) (n : ℕ) (p : Option ℕ) → Type 0
 IsParentClosed xs n None = Unit {0}
 IsParentClosed xs n (Some p) = (p < n) × (is_closed_at (slice_get xs p) ≡ true)
 
--- Each shard of the list has only closed shards with smaller numbers as its parent and its adjacent parent
--- (`IsParentClosed`).
-abbrev pub AreParentsClosed : List ShardState → Type 0
+-- Both parents of each shard, if any, are closed shards with smaller numbers.
+abbrev pub AreParentsClosed : (xs : List ShardState) → Type 0
 AreParentsClosed xs =
     AllByRecursion (λ (x : ShardState). IsParentClosed xs x.no x.parent × IsParentClosed xs x.no x.adjacent) xs
 
--- After the history `h`, the counter of each row, and the number of tenures that began, are at most the number of
--- turns.
+-- The rows' counters and the number of tenures are at most the number of turns.
 pub record AreCounted (h : List Turn) : Type 0 where
   pub counters : (key : ShardRef) → counter_in (row (journal h) key) ≤ length h
   pub tenures : taken_count (journal h) ≤ length h
 
--- After the history `h`, each shard has at most `MANY_ITEMS` records for each turn. `MANY_ITEMS` is how many records
--- one PutRecords may put.
-abbrev pub AreFewRecords : List Turn → Type 0
+-- Each shard has at most `MANY_ITEMS` records for each turn, as many as one PutRecords may put.
+abbrev pub AreFewRecords : (h : List Turn) → Type 0
 AreFewRecords h = (s sh : ℕ) → length (records (journal h) s sh) ≤ MANY_ITEMS * length h

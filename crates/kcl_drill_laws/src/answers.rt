@@ -29,33 +29,33 @@ ghost use Rattle.kcl_drill_laws.specs.Leasing.{AreOnLeases, HasSameFloors, HasSa
 /// to the end of the records that it has reported as processed. The lease's counter and the number of tenures must be
 /// below their maximum (Kinesis Client Library, leases).
 pub fn held_answers()
-    ensures take { (log : Journal) (c by owner : ℕ) (key : ShardRef) (r : Row) → row log key ≡ Some r → MayTake log r
-        → IsTakenSo log c by owner key r }
-    ensures opening { (log : Journal) (c d by owner : ℕ) (key : ShardRef) (r : Row) → row log key ≡ Some r
-        → MayOpen (taken_line log d by key r owner ∷ log) c key → IsOpenedSo log c d by owner key r }
+    ensures take { (log : Journal) (c actor owner : ℕ) (key : ShardRef) (r : Row) → row log key ≡ Some r → MayTake log r
+        → IsTakenSo log c actor owner key r }
+    ensures opening { (log : Journal) (c d actor owner : ℕ) (key : ShardRef) (r : Row) → row log key ≡ Some r
+        → MayOpen (taken_line log d actor key r owner ∷ log) c key → IsOpenedSo log c d actor owner key r }
     ensures read { (log : Journal) (c limit : ℕ) (x : Holding) → Holds log x → length x.waiting < PENDING_READS
         → is_listed_key log c x.key ≡ true → IsReadSo log c x limit }
     ensures give { (log : Journal) (c : ℕ) (x : Holding) (r : ReadDone) (rest : List ReadDone) → Holds log x
         → x.waiting ≡ r ∷ rest
         → IsGivenSo log c x r }
-    ensures mark { (log : Journal) (c : ℕ) (x : Holding) (to : Target) → Holds log x → MayMark x to
+    ensures mark { (log : Journal) (c : ℕ) (x : Holding) (target : Target) → Holds log x → MayMark x target
         → (x.counter == last_number) ≡ false
-        → IsMarkedSo log c x to }
+        → IsMarkedSo log c x target }
 {}
 
 /// States how a tenure and its lease change with each event of the tenure in the journal, the machine's event log.
 /// There are four cases: the lease is taken and the shard is opened, a batch is read, the oldest waiting read is
 /// reported as processed, and a checkpoint is set.
 pub fn held_states()
-    ensures begun { (log : Journal) (c d by owner : ℕ) (key : ShardRef) (r : Row) → row log key ≡ Some r
-        → Holds (opened_line log d by ∷ taken_line log c by key r owner ∷ log) (begun_from log by key r) }
+    ensures begun { (log : Journal) (c d actor owner : ℕ) (key : ShardRef) (r : Row) → row log key ≡ Some r
+        → Holds (opened_line log d actor ∷ taken_line log c actor key r owner ∷ log) (begun_from log actor key r) }
     ensures read { (log : Journal) (c limit : ℕ) (x : Holding) (r : ReadDone) → Holds log x
         → Holds (read_line c x limit r ∷ log) (after_read x r) }
     ensures given { (log : Journal) (c : ℕ) (x : Holding) (r : ReadDone) (rest : List ReadDone) → Holds log x
         → x.waiting ≡ r ∷ rest
         → Holds (given_line c x ∷ log) (after_give x r rest) }
-    ensures marked { (log : Journal) (c : ℕ) (x : Holding) (to : Target) → Holds log x
-        → Holds (marked_line c x to ∷ log) (after_mark x to) }
+    ensures marked { (log : Journal) (c : ℕ) (x : Holding) (target : Target) → Holds log x
+        → Holds (marked_line c x target ∷ log) (after_mark x target) }
 {}
 
 /// Commands on leases don't change the streams: their names, shards, records, next sequence numbers and retention

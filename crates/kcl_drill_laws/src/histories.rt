@@ -44,17 +44,17 @@ pub fn stopped()
 /// If a worker's initial position in the stream is the trim horizon, each command by which the worker creates a lease
 /// starts that lease at the trim horizon.
 pub fn horizon()
-    ensures { (by : ℕ) (made : WorkerMade) (past : WorkerPast) → made.settings.from ≡ origin.TrimHorizon
-        → AreDrillTurns (turns_in by made past) }
+    ensures { (actor : ℕ) (made : WorkerMade) (past : WorkerPast) → made.settings.from ≡ origin.TrimHorizon
+        → AreDrillTurns (turns_in actor made past) }
 {}
 
 /// If commands on leases follow a drill's history, the longer history is again a drill's history, with the same latest
 /// time. There are two conditions: the added commands have one sender and one time `at`, and `at` isn't after the
 /// latest time in the drill's history.
 pub fn drained()
-    ensures drill { (number records by at : ℕ) (more h : List Turn) → IsDrill h number records → at ≤ clock h
-        → AreLeased by at more → IsDrill (more ++ h) number records }
-    ensures clock { (by at : ℕ) (more h : List Turn) → at ≤ clock h → AreLeased by at more
+    ensures drill { (number records actor moment : ℕ) (more h : List Turn) → IsDrill h number records → moment ≤ clock h
+        → AreLeased actor moment more → IsDrill (more ++ h) number records }
+    ensures clock { (actor moment : ℕ) (more h : List Turn) → moment ≤ clock h → AreLeased actor moment more
         → clock (more ++ h) ≡ clock h }
 {}
 

@@ -1,5 +1,4 @@
--- What is true of a drill's history after the hall was closed: it is short, and if no thread failed, it is the history
--- of the drill.
+-- After the hall was closed, a drill's history is short, and if no thread failed, it is the drill's.
 use Rattle.std.proofs.Common.{◌≡◌, ℕ, ◌<◌, ◌^◌, List, [], ◌∷◌, ◌++◌, length, map, sym, ap, subst, ◌∙◌, arith}
 use Rattle.std.proofs.Common.{length-append}
 use Rattle.std.specs.Prelude.{◌==◌}
@@ -19,8 +18,7 @@ use Rattle.kcl_drill_run.specs.Running.{AreShort, HasDrilled, HasTaken, HaveRun,
 use Rattle.kcl_drill_run.specs.declared.participants.Participants.{Participants}
 use Rattle.kcl_drill_run.proofs.Accounts.{count_accounts, counted, each_alone, has_each, of_accounts}
 
--- Two laws that the lemmas take as given: if no thread failed (`IsClosed`), the history is that of the drill, and each
--- row was made with the origin TRIM_HORIZON.
+-- Two laws taken as given: without failed threads the history is the drill's, and its rows are from TRIM_HORIZON.
 pub record HasLaws : Type 0 where
   pub drill : (number records : ℕ) (root feeder : PassValue) (members : List Account) (h : List Turn)
       → IsClosed number records root feeder members h
@@ -29,17 +27,15 @@ pub record HasLaws : Type 0 where
       → IsClosed number records root feeder members h
       → AreFromHorizon (journal h)
 
--- A third law: the history of a drill whose threads have ended, perhaps early, has fewer than 2^32 turns.
+-- The law, taken as given, that a drill whose threads have ended, perhaps early, has fewer than 2^32 turns.
 abbrev pub StoppedIsShort : Type 0
 StoppedIsShort = (number records : ℕ) (root feeder : PassValue) (members : List Account) (h : List Turn)
     → IsStopped number records root feeder members h
     → length h < 2 ^ 32
 
--- If a history has fewer than 2^32 turns, so has what a pass has seen of it.
 short_of : (h seen : List Turn) → Continues h seen → length h < 2 ^ 32 → length seen < 2 ^ 32
 short_of h seen more short = omega (arith, short, ap length more.1, length-append more.0 seen)
 
--- If a history has fewer than 2^32 turns, each worker's pass has seen fewer than 2^32 turns.
 short_members : {M P F G : Type 0} (h last : List Turn) (ms : List (Member M P F G)) → Continues h last
     → length h < 2 ^ 32
     → AllByRecursion (λ m. Continues last m.pass.seen) ms → AllByRecursion (λ m. IsShort m.pass) ms
@@ -49,19 +45,16 @@ short_members h last (m ∷ ms) more short are = (
   short_members h last ms more short are.1,
 )
 
--- In this module, the threads have ended, perhaps early (`HaveStopped`), and `last` is the pass into which all others
--- were joined (`HasTaken`).
+-- The threads have ended, perhaps early, and all other passes were joined into `last`.
 module _ (hall : HallValue) (number records : ℕ) (p : Participants) (is : HaveStopped hall number records p)
     (last : PassValue) (taken : HasTaken p last) where
   -- The accounts of the workers.
   abbrev xs : List Account
   xs = map account_in p.members.items
 
-  -- There are as many accounts as workers.
   long : length xs ≡ length p.members.items
   long = count_accounts p.members.items
 
-  -- The accounts of the pass `last` are those of the root, the feeder and the workers.
   accounts_are : accounts_of last ≡ all_accounts p.root p.feeder xs
   accounts_are =
       ap (λ n. account n last.own ∷ last.joined) taken.by
@@ -73,16 +66,15 @@ module _ (hall : HallValue) (number records : ℕ) (p : Participants) (is : Have
       ∙ ap (λ (js : List Account). account p.root.by p.root.own ∷ account p.feeder.by p.feeder.own ∷ (js ++ xs))
       is.alone.1
 
-  -- The pass `last` has an account for each pass of the hall (`HasAll`).
+  -- The pass `last` has an account for each pass of the hall.
   pub has_all : HasAll hall.passes last
   has_all n least most =
       subst (λ (accounts : List Account). 0 < times n accounts) (sym accounts_are)
       (has_each p.root p.feeder xs is.by.0 is.by.1 (counted hall 3 p.members.items is.passes) n least
       (omega (arith, most, is.all, long)))
 
-  -- In this module, `h` is the history of the closed hall: its turns are exactly those of the accounts of `last`.
+  -- `h` is the history of the closed hall: its turns are exactly the turns of the accounts of `last`.
   module _ (h : List Turn) (all : AreAllBy (accounts_of last) h) (own : IsSplitInto (accounts_of last) h) where
-    -- `h` is the history of a drill whose threads have ended, perhaps early (`IsStopped`).
     is_stopped : IsStopped number records p.root p.feeder xs h
     is_stopped = record {
       limit = is.limit;
@@ -94,11 +86,9 @@ module _ (hall : HallValue) (number records : ℕ) (p : Participants) (is : Have
     }
 
     module _ (law : StoppedIsShort) (seen : Continues h last.seen) where
-      -- The history has fewer than 2^32 turns.
       pub is_short : length h < 2 ^ 32
       is_short = law number records p.root p.feeder xs h is_stopped
 
-      -- Each pass has seen fewer than 2^32 turns.
       pub are_short : AreShort p
       are_short = record {
         root = short_of h p.root.seen (continues_all h last.seen p.root.seen seen taken.seen_root) is_short;
@@ -106,13 +96,12 @@ module _ (hall : HallValue) (number records : ℕ) (p : Participants) (is : Have
         members = short_members h last.seen p.members.items seen is_short taken.seen_members;
       }
 
--- In this module, no thread failed (`HaveRun`), and `h` is the history of the closed hall.
+-- No thread failed (`HaveRun`), and `h` is the history of the closed hall.
 module _ (hall : HallValue) (number records : ℕ) (p : Participants) (ran : HaveRun hall number records p)
     (last : PassValue)
     (taken : HasTaken p last)
     (h : List Turn) (lawful : IsHistory h) (seen : Continues h last.seen) (all : AreAllBy (accounts_of last) h)
     (own : IsSplitInto (accounts_of last) h) where
-  -- `h` is the history of a drill whose threads ended without an error (`IsClosed`).
   is_closed : IsClosed number records p.root p.feeder (map account_in p.members.items) h
   is_closed =
       let is = is_stopped hall number records p ran.stopped last taken h all own in
@@ -128,7 +117,6 @@ module _ (hall : HallValue) (number records : ℕ) (p : Participants) (ran : Hav
         own = is.own;
       }
 
-  -- A machine that stands for `h` stands for the history of the drill (`HasDrilled`).
   pub has_drilled : (laws : HasLaws) (law : StoppedIsShort) (w : WorldValue) → StandsFor w h
       → HasDrilled number records w
   has_drilled laws law w stands =

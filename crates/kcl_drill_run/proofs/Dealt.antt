@@ -1,5 +1,4 @@
--- The passes of a new hall are dealt out: the first to the root, the second to the feeder, and the others to the
--- workers (`AreDealt`).
+-- The passes of a new hall are dealt out: to the root, to the feeder, and to the workers (`AreDealt`).
 use Rattle.std.proofs.Common.{◌≡◌, ℕ, zero, suc, ◌+◌, ◌≤◌, List, [], ◌∷◌, ◌++◌, length, refl, sym, ap, subst, ◌∙◌}
 use Rattle.std.proofs.Common.{arith}
 use Rattle.std.specs.Prelude.{slice_index_or}
@@ -12,8 +11,7 @@ use Rattle.kcl_drill_run.specs.Participants.{AreDealt, AreMembersOf, IsMemberOf,
 use Rattle.kcl_drill_run.specs.declared.participants.Participants.{Participants}
 
 module _ {M G : Type 0} where
-  -- If there is one worker for each pass, this is still so after one more pass and its worker were added. The name of
-  -- the new worker is the next number.
+  -- One more pass and its worker, named by the next number, keep `AreMembersOf`.
   pub one_more : (name : ℕ) (ps : List PassValue) (ms : List (Member M Stock Kind G)) (p : PassValue)
       (m : Member M Stock Kind G) → AreMembersOf name ps ms
       → IsMemberOf (name + length ms) p m → AreMembersOf name (ps ++ p ∷ []) (ms ++ m ∷ [])
@@ -24,7 +22,6 @@ module _ {M G : Type 0} where
       let e : name + suc (length ms) ≡ name + 1 + length ms = omega arith in
       (are.0, one_more (name + 1) ps ms p m are.1 (subst (λ n. IsMemberOf n p m) e is))
 
-  -- If there is one worker for each pass, there are as many workers as passes.
   pub as_many : (name : ℕ) (ps : List PassValue) (ms : List (Member M Stock Kind G)) → AreMembersOf name ps ms
       → length ms ≡ length ps
   as_many name [] [] are = refl
@@ -34,41 +31,34 @@ module _ {M G : Type 0} where
 
 -- ---- The first two passes and the others
 
--- The passes with the numbers from 1 to `n` + 2 are the first, the second, and the passes from 3 on.
 first_two : (hall : HallValue) (n : ℕ) → new_passes hall 1 (n + 2) ≡ new_pass hall.id 1 ∷ new_pass hall.id 2
     ∷ new_passes hall 3 n
 first_two hall n = let e : n + 2 ≡ suc (suc n) = omega arith in ap (new_passes hall 1) e
 
--- There are `n` new passes with the `n` numbers from `from` on.
-pub count_new : (hall : HallValue) (from n : ℕ) → length (new_passes hall from n) ≡ n
-count_new hall from zero = refl
-count_new hall from (suc n) = ap suc (count_new hall (from + 1) n)
+pub count_new : (hall : HallValue) (start n : ℕ) → length (new_passes hall start n) ≡ n
+count_new hall start zero = refl
+count_new hall start (suc n) = ap suc (count_new hall (start + 1) n)
 
--- `x` was taken from the front of the list `from`, and `left` is the rest of the list.
-pub record IsTaken (from left : List PassValue) (x : PassValue) : Type 0 where
-  pub value : x ≡ slice_index_or from 0 x
-  pub left_are : left ≡ remove from 0
+-- `x` was taken from the front of the list `passes`, and `left` is the rest.
+pub record IsTaken (passes left : List PassValue) (x : PassValue) : Type 0 where
+  pub value : x ≡ slice_index_or passes 0 x
+  pub left_are : left ≡ remove passes 0
 
--- In this module, `all` are the new passes of a hall for the root, the feeder and `workers` workers. The root's pass is
--- taken first, then the feeder's.
+-- `all` are a hall's new passes: the root's is taken first, then the feeder's, and the rest goes to the workers.
 module _ (hall : HallValue) (workers : ℕ) (all some rest : List PassValue)
     (new : all ≡ new_passes hall 1 (workers + 2)) where
-  -- The passes are the first, the second, and the passes from 3 on.
   are_all : all ≡ new_pass hall.id 1 ∷ new_pass hall.id 2 ∷ new_passes hall 3 workers
   are_all = new ∙ first_two hall workers
 
   module _ (root : PassValue) (first : IsTaken all some root) where
-    -- After the root's pass was taken, the second pass and the passes from 3 on are left.
     are_some : some ≡ new_pass hall.id 2 ∷ new_passes hall 3 workers
     are_some = first.left_are ∙ ap (λ xs. remove xs 0) are_all
 
     module _ (feeder : PassValue) (second : IsTaken some rest feeder) where
-      -- After the feeder's pass was taken too, the passes from 3 on are left.
       are_rest : rest ≡ new_passes hall 3 workers
       are_rest = second.left_are ∙ ap (λ xs. remove xs 0) are_some
 
-      -- If the root and the feeder have the passes that were taken, and the workers have the passes that are left, then
-      -- the passes are dealt out (`AreDealt`).
+      -- The passes taken first and the rest, given to the workers, are dealt out (`AreDealt`).
       pub dealt : (p : Participants) → p.root ≡ root → p.feeder ≡ feeder → AreMembersOf 1 rest p.members.items
           → hall.passes ≡ workers + 2 → workers ≤ 64
           → AreDealt hall p × (length p.members.items ≡ workers)

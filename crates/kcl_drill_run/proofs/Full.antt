@@ -1,5 +1,4 @@
--- If a thread of a drill ended with the error Spent, a pass is full: it has seen 2^64 - 1 turns. A pass that has seen
--- fewer than 2^32 turns isn't full.
+-- A thread ends with Spent only if a pass is full, and no pass with fewer than 2^32 turns seen is.
 use Rattle.std.proofs.Common.{◌≡◌, ◌⊎◌, inl, inr, ℕ, suc, List, [], ◌∷◌, length, refl, subst, arith, Err}
 use Rattle.std.specs.Prelude.{IfErr}
 use Rattle.std.specs.List.{AllByRecursion}
@@ -22,27 +21,23 @@ no_memory e = absurd cc
 
 -- ---- The root and the feeder
 
--- If a command of the root failed with Spent, the root's pass is full.
-ask_full : (before p : PassValue) → IsAskErr before p failed.Spent → IsFull p
-ask_full before p (inl memory) = absurd (no_memory memory.0)
-ask_full before p (inr turn) = turn.0 refl
+ask_full : (old p : PassValue) → IsAskErr old p failed.Spent → IsFull p
+ask_full old p (inl memory) = absurd (no_memory memory.0)
+ask_full old p (inr turn) = turn.0 refl
 
--- If the feeder failed with Spent, its pass is full.
 feed_full : (p : PassValue) → IsFeedErr p failed.Spent → IsFull p
 feed_full p (inl memory) = absurd (no_memory memory.0)
 feed_full p (inr turn) = turn.0 refl
 
--- If the root or the feeder failed with Spent, one of their passes is full.
-crowd_spent : (before root feeder : PassValue) → IsCrowdErr before root feeder failed.Spent
+crowd_spent : (old root feeder : PassValue) → IsCrowdErr old root feeder failed.Spent
     → IsFull root ⊎ IsFull feeder
-crowd_spent before root feeder (inl asked) = inl (ask_full before root asked.2)
-crowd_spent before root feeder (inr fed) = inr (feed_full feeder fed.1)
+crowd_spent old root feeder (inl asked) = inl (ask_full old root asked.2)
+crowd_spent old root feeder (inr fed) = inr (feed_full feeder fed.1)
 
--- If the root or the feeder failed with Spent, at least one pass of the drill is full (`AreFull`).
-pub crowd_full : (before : PassValue) (p : Participants) (e : TurnErr) → IsCrowdErr before p.root p.feeder e
+pub crowd_full : (old : PassValue) (p : Participants) (e : TurnErr) → IsCrowdErr old p.root p.feeder e
     → e ≡ failed.Spent → AreFull p
-crowd_full before p e err is =
-    either (crowd_spent before p.root p.feeder (subst (IsCrowdErr before p.root p.feeder) is err))
+crowd_full old p e err is =
+    either (crowd_spent old p.root p.feeder (subst (IsCrowdErr old p.root p.feeder) is err))
   where
     either : IsFull p.root ⊎ IsFull p.feeder → AreFull p
     either (inl root) = inl root
@@ -51,42 +46,36 @@ crowd_full before p e err is =
 -- ---- The workers
 
 module _ {M P F G : Type 0} (stands : P → List Call → Type 0) (turns : ℕ) where
-  -- If the run of a worker was cut short by Spent, its pass is full.
   cut_full : (a : Member M P F G) → WasCut stands a.worker a.pass failed.Spent → IsFull a.pass
   cut_full a (inl call) = absurd (no_memory call.error)
   cut_full a (inr (inl turn)) = turn.spent.0 refl
   cut_full a (inr (inr answer)) = absurd (no_memory answer.error)
 
-  -- If the run of a worker ended with Spent, its pass is full.
   one_full : (b a : Member M P F G) → HasEnded stands turns 50 b a → a.outcome ≡ Err failed.Spent → IsFull a.pass
   one_full b a ended is = cut_full a (subst (λ o. IfErr o (WasCut stands a.worker a.pass)) is ended.err)
 
-  -- If at least one worker ended with Spent, the pass of at least one worker is full.
-  pub members_full : (e : TurnErr) (before after : List (Member M P F G)) → e ≡ failed.Spent
-      → length after ≡ length before
-      → HaveEnded stands turns before after → SomeFailed e after → SomeIsFull after
-  members_full e before [] is same ended some = absurd some
-  members_full e [] (a ∷ after) is same ended some = absurd (omega arith)
-  members_full e (b ∷ before) (a ∷ after) is same ended (inl one) =
+  pub members_full : (e : TurnErr) (old new : List (Member M P F G)) → e ≡ failed.Spent
+      → length new ≡ length old
+      → HaveEnded stands turns old new → SomeFailed e new → SomeIsFull new
+  members_full e old [] is same ended some = absurd some
+  members_full e [] (a ∷ new) is same ended some = absurd (omega arith)
+  members_full e (b ∷ old) (a ∷ new) is same ended (inl one) =
       inl (one_full b a (ended 0 b (omega arith)) (subst (λ x. a.outcome ≡ Err x) is one))
-  members_full e (b ∷ before) (a ∷ after) is same ended (inr more) =
-      inr (members_full e before after is (omega arith) (λ i m below. ended (suc i) m (omega arith))
+  members_full e (b ∷ old) (a ∷ new) is same ended (inr more) =
+      inr (members_full e old new is (omega arith) (λ i m below. ended (suc i) m (omega arith))
       more)
 
 -- ---- Passes that have seen few turns
 
--- A pass that has seen fewer than 2^32 turns isn't full.
 few_not_full : (p : PassValue) → IsShort p → IsFull p → ⊥
 few_not_full p short full = absurd (omega arith)
 
--- If the passes of all workers have seen fewer than 2^32 turns each, none of them is full.
 members_not_full : {M P F G : Type 0} (ms : List (Member M P F G)) → AllByRecursion (λ m. IsShort m.pass) ms
     → SomeIsFull ms → ⊥
 members_not_full [] short full = full
 members_not_full (m ∷ ms) short (inl one) = few_not_full m.pass short.0 one
 members_not_full (m ∷ ms) short (inr more) = members_not_full ms short.1 more
 
--- If all passes of a drill have seen fewer than 2^32 turns each, none of them is full.
 pub not_full : (p : Participants) → AreShort p → AreFull p → ⊥
 not_full p short (inl root) = few_not_full p.root short.root root
 not_full p short (inr (inl feeder)) = few_not_full p.feeder short.feeder feeder

@@ -1,5 +1,4 @@
--- Who takes part in a drill: the root, which makes the stream, the feeder, which puts the records, and the members,
--- which are workers. Each of them has a pass, which is its access to the hall.
+-- Who takes part in a drill, each with a pass of the hall: the root, the feeder, and the members (workers).
 use Rattle.std.specs.Prelude.{◌≡◌, ℕ, ◌+◌, ◌≤◌, List, [], ◌∷◌, length, map}
 use Rattle.std.specs.List.{range_with_len}
 use Rattle.kcl_defs.specs.Workers.{usual_settings}
@@ -13,27 +12,25 @@ use Rattle.kcl_worker.specs.Standing.{StandsFor}
 use Rattle.kds_turn.specs.Passes.{HallValue, PassValue, new_pass}
 use Rattle.kcl_drill_run.specs.declared.participants.Participants.{Participants}
 
--- The member is a new worker with the name `name` and the pass `pass`. The worker has the usual settings, by which it
--- reads each shard from the shard's beginning. Its processors count records and bytes (`Tally`).
+-- The member is a new worker with the usual settings, whose processors count records and bytes (`Tally`).
 pub record IsMemberOf {M G : Type 0} (name : ℕ) (pass : PassValue) (m : Member M Stock Kind G) : Type 0 where
   pub pass_is : m.pass ≡ pass
   pub made : m.worker.made ≡ record { name = name; settings = usual_settings }
   pub tallies : m.worker.maker ≡ kind.Tally
   pub stands : StandsFor StockStandsFor m.worker []
 
--- There is one worker for each of the passes, in the order of the passes. The workers' names are the numbers from
--- `name` on.
-abbrev pub AreMembersOf : {M G : Type 0} → ℕ → List PassValue → List (Member M Stock Kind G) → Type 0
+-- There is one worker for each pass, in order, named by the numbers from `name` on.
+abbrev pub AreMembersOf : {M G : Type 0} → (name : ℕ) (ps : List PassValue) (ms : List (Member M Stock Kind G)) → Type
+    0
 AreMembersOf name [] [] = Unit {0}
 AreMembersOf name (p ∷ ps) (m ∷ ms) = IsMemberOf name p m × AreMembersOf (name + 1) ps ms
 AreMembersOf name _ _ = ⊥
 
--- The new passes of the hall with the `count` numbers from `from` on.
-abbrev pub new_passes : HallValue → ℕ → ℕ → List PassValue
-new_passes hall from count = map (new_pass hall.id) (range_with_len from count)
+-- The new passes of the hall with the `count` numbers from `start` on.
+abbrev pub new_passes : (hall : HallValue) (start count : ℕ) → List PassValue
+new_passes hall start count = map (new_pass hall.id) (range_with_len start count)
 
--- The passes of the hall are dealt out: the root has the first one, the feeder the second, and each worker one of the
--- others, in order. The hall has no further pass, and there are at most `MOST_WORKERS` workers.
+-- All passes are dealt out: the first to the root, the second to the feeder, then one to each worker.
 pub record AreDealt (hall : HallValue) (p : Participants) : Type 0 where
   pub root : p.root ≡ new_pass hall.id 1
   pub feeder : p.feeder ≡ new_pass hall.id 2

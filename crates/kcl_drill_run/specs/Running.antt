@@ -1,6 +1,4 @@
--- What the threads of a drill have done when they have ended, and which history the drill's machine then stands for.
--- The root makes the stream, the feeder puts the records, and the members are workers. Each has a pass, which is its
--- access to the hall.
+-- What a drill's threads have done when they have ended, and the history for which its machine then stands.
 use Rattle.std.specs.Prelude.{◌≡◌, ◌⊎◌, ℕ, ◌+◌, ◌^◌, ◌<◌, ◌≤◌, List, [], ◌∷◌, ◌++◌, length, flat_map}
 use Rattle.std.specs.List.{AllByRecursion}
 use Rattle.kds_defs.specs.declared.command.Turn.{Turn}
@@ -19,24 +17,21 @@ use Rattle.kcl_drill_run.specs.Ends.{SomeFailed}
 use Rattle.kcl_drill_run.specs.declared.participants.Participants.{Participants}
 
 -- The account of a worker: the number of its pass, and the turns that it made.
-abbrev pub account_in : {M P F G : Type 0} → Member M P F G → Account
+abbrev pub account_in : {M P F G : Type 0} → (m : Member M P F G) → Account
 account_in m = account m.pass.by m.pass.own
 
--- The worker's pass is the one of the hall with the number `n`, and no other pass was joined into it.
+-- The worker has the hall's pass `n`, and no other pass was joined into it.
 pub record HasPass {M P F G : Type 0} (hall : HallValue) (n : ℕ) (m : Member M P F G) : Type 0 where
   pub at : m.pass.hall ≡ hall.id
   pub by : m.pass.by ≡ n
   pub alone : m.pass.joined ≡ []
 
--- The workers' passes are those of the hall with the numbers from `from` on, in order (`HasPass`).
-abbrev pub HavePasses : {M P F G : Type 0} → HallValue → ℕ → List (Member M P F G) → Type 0
-HavePasses hall from [] = Unit {0}
-HavePasses hall from (m ∷ ms) = HasPass hall from m × HavePasses hall (from + 1) ms
+-- The workers have the hall's passes with the numbers from `start` on, in order.
+abbrev pub HavePasses : {M P F G : Type 0} → (hall : HallValue) (start : ℕ) (ms : List (Member M P F G)) → Type 0
+HavePasses hall start [] = Unit {0}
+HavePasses hall start (m ∷ ms) = HasPass hall start m × HavePasses hall (start + 1) ms
 
--- The threads of the drill with the number `number` and `records` records have ended, perhaps early. The root and the
--- feeder each made their commands up to some command, and each worker made few enough turns (`IsFew`). The passes are
--- those that were dealt out, and the hall has no further pass. The records and the workers are at most as many as a
--- drill may have.
+-- The threads have ended, perhaps early: root and feeder made their commands up to some, workers few turns.
 pub record HaveStopped (hall : HallValue) (number records : ℕ) (p : Participants) : Type 0 where
   pub limit : records ≤ MOST_RECORDS
   pub at : (p.root.hall ≡ hall.id) × (p.feeder.hall ≡ hall.id)
@@ -48,38 +43,36 @@ pub record HaveStopped (hall : HallValue) (number records : ℕ) (p : Participan
   pub all : hall.passes ≡ length p.members.items + 2
   pub few : length p.members.items ≤ MOST_WORKERS
 
--- The threads have ended without an error: the root and the feeder made all commands of the generator, and each worker
--- made the turns of its whole run (`IsMemberAccount`).
+-- The threads have ended without an error: root and feeder made all commands, and workers made their whole runs.
 pub record HaveRun (hall : HallValue) (number records : ℕ) (p : Participants) : Type 0 where
   pub stopped : HaveStopped hall number records p
   pub fed : HasFed number records p.root p.feeder
   pub made : AllByRecursion (λ m. IsMemberAccount records (account_in m)) p.members.items
 
--- The reason for the error `e` with which the threads stopped early: the root or the feeder failed with it, or at least
--- one worker did.
-abbrev pub HaveFailed : Participants → Participants → TurnErr → Type 0
-HaveFailed before after e = IsCrowdErr before.root after.root after.feeder e ⊎ SomeFailed e after.members.items
+-- The threads stopped early with `e`, because the root, the feeder or at least one worker failed with it.
+abbrev pub HaveFailed : (old new : Participants) (e : TurnErr) → Type 0
+HaveFailed old new e = IsCrowdErr old.root new.root new.feeder e ⊎ SomeFailed e new.members.items
 
 -- ---- How many turns a pass has seen
 
--- The pass has seen 2^64 - 1 turns, which are as many as can be counted.
-abbrev pub IsFull : PassValue → Type 0
+-- The pass has seen 2^64 - 1 turns, the most that can be counted.
+abbrev pub IsFull : (p : PassValue) → Type 0
 IsFull p = length p.seen + 1 ≡ 2 ^ 64
 
--- The pass of at least one of the workers is full (`IsFull`).
-abbrev pub SomeIsFull : {M P F G : Type 0} → List (Member M P F G) → Type 0
+-- The pass of at least one worker is full (`IsFull`).
+abbrev pub SomeIsFull : {M P F G : Type 0} → (ms : List (Member M P F G)) → Type 0
 SomeIsFull [] = ⊥
 SomeIsFull (m ∷ ms) = IsFull m.pass ⊎ SomeIsFull ms
 
--- The pass of the root, of the feeder, or of at least one of the workers is full (`IsFull`).
-abbrev pub AreFull : Participants → Type 0
+-- The pass of the root, of the feeder, or of at least one worker is full (`IsFull`).
+abbrev pub AreFull : (p : Participants) → Type 0
 AreFull p = IsFull p.root ⊎ IsFull p.feeder ⊎ SomeIsFull p.members.items
 
 -- The pass has seen fewer than 2^32 turns.
-abbrev pub IsShort : PassValue → Type 0
+abbrev pub IsShort : (p : PassValue) → Type 0
 IsShort p = length p.seen < 2 ^ 32
 
--- The passes of the root, the feeder and each worker have seen fewer than 2^32 turns each.
+-- All passes have seen fewer than 2^32 turns each.
 pub record AreShort (p : Participants) : Type 0 where
   pub root : IsShort p.root
   pub feeder : IsShort p.feeder
@@ -88,11 +81,10 @@ pub record AreShort (p : Participants) : Type 0 where
 -- ---- The end of the hall: all passes are joined into one
 
 -- The accounts of a worker's pass and of the passes that were joined into it.
-abbrev pub accounts_in : {M P F G : Type 0} → Member M P F G → List Account
+abbrev pub accounts_in : {M P F G : Type 0} → (m : Member M P F G) → List Account
 accounts_in m = accounts_of m.pass
 
--- `last` is the pass of the root after the feeder's pass and then those of the workers were joined into it. `last` has
--- seen all turns that the passes of the root, the feeder and the workers had seen.
+-- `last` is the root's pass with the feeder's and then the workers' joined, and has seen all that they had seen.
 pub record HasTaken (p : Participants) (last : PassValue) : Type 0 where
   pub by : last.by ≡ p.root.by
   pub own : last.own ≡ p.root.own
@@ -101,9 +93,7 @@ pub record HasTaken (p : Participants) (last : PassValue) : Type 0 where
   pub seen : Continues last.seen p.feeder.seen
   pub seen_members : AllByRecursion (λ m. Continues last.seen m.pass.seen) p.members.items
 
--- The machine `w` stands for the history `turns` of the drill with the number `number` and `records` records
--- (`IsDrill`). This history has fewer than 2^32 turns, and each row in its journal was made with the origin
--- TRIM_HORIZON.
+-- The machine stands for a short history of the drill, whose rows were all made with the origin TRIM_HORIZON.
 pub record HasDrilled (number records : ℕ) (w : WorldValue) : Type 0 where
   pub turns : List Turn
   pub stands : StandsFor w turns

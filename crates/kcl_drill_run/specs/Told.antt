@@ -7,9 +7,8 @@ use Rattle.kds_ends.specs.declared.status.Status.{Status}
 use Rattle.kds_ends.specs.declared.status.Status.TheVariants.{Done, Write, Memory}
 use Rattle.kcl_drill.specs.Summed.{drill_text}
 
--- The sink held `held` before the drill, and holds `now` after it. With Done, the text of the drill was added, with
--- Write a prefix of this text, and with Memory nothing. A drill ends with no other status.
-abbrev pub DrillTells : Status → ℕ → ℕ → Option (List ℕ) → Option (List ℕ) → Type 0
+-- What the drill added to the sink: with Done its text, with Write a prefix of it, and with Memory nothing.
+abbrev pub DrillTells : (status : Status) (number records : ℕ) (held now : Option (List ℕ)) → Type 0
 DrillTells Done number records held now = Appends held now (drill_text number records)
 DrillTells Write number records held now = AppendsFront held now (drill_text number records)
 DrillTells Memory number records held now = Appends held now []

@@ -23,7 +23,7 @@ pub fn drained_text<M: Machine>(alloc: Global, machine: &mut M) -> Result<Octets
     ensures text { (number records : ℕ) (h : List Turn) → M.stands_for machine.old h → IsDrill h number records
         → length h < 2 ^ 32
         → AreFromHorizon (journal h) → IfOk result (λ text. text ≡ drill_text number records) }
-    ensures leased { (h : List Turn) → M.stands_for machine.old h → (more : List Turn)
+    ensures kept { (h : List Turn) → M.stands_for machine.old h → (more : List Turn)
         × M.stands_for machine.new (more ++ h) }
 {
     kcl_drill::one_text();

@@ -1,5 +1,4 @@
--- A batch and the records that are left after it. If records have rising sequence numbers, they are the batch that they
--- begin with, and then the records from the position after this batch on.
+-- Records with rising sequence numbers are the batch that they begin with, then the records after it.
 use Rattle.std.proofs.Common.{◌≡◌, ℕ, zero, suc, ◌+◌, ◌-◌, ◌<◌, ◌≤◌, Bool, true, false, List, [], ◌∷◌, ◌++◌, map, refl}
 use Rattle.std.proofs.Common.{sym, ap, ◌∙◌, arith}
 use Rattle.std.specs.Prelude.{not, nat_le, nat_lt, ◌&&◌, cond, if◌then◌else◌}
@@ -12,25 +11,23 @@ use Rattle.kcl_laws.specs.Recorded.{IsSized}
 use Rattle.kcl_drill_summary.specs.Counting.{AreAbove}
 use Rattle.kcl_drill.specs.Summed.{bytes_of}
 
--- Each of the records has a bounded size (`IsSized`).
+-- Each record has a bounded size (`IsSized`).
 abbrev pub AreSized : List Logged → Type 0
 AreSized rs = AllByRecursion IsSized rs
 
--- The sequence numbers of the records rise strictly, and the first of them is at or above `p`.
+-- The sequence numbers of the records rise strictly, from `p` or above.
 abbrev pub IsUp : ℕ → List Logged → Type 0
 IsUp p [] = Unit {0}
 IsUp p (r ∷ rs) = (p ≤ r.seq) × IsUp (r.seq + 1) rs
 
--- Those of the records whose sequence number is `p` or greater.
+-- The records whose sequence number is at least `p`.
 abbrev pub from : ℕ → List Logged → List Logged
 from p rs = filter (λ (r : Logged). nat_le p r.seq) rs
 
--- If the numbers of records rise from `m` on, they rise from each smaller number on.
 pub up_weaker : (p m : ℕ) (rs : List Logged) → p ≤ m → IsUp m rs → IsUp p rs
 up_weaker p m [] le up = tt
 up_weaker p m (r ∷ rs) le up = (omega (arith, le, up.0), up.1)
 
--- If the numbers of records rise from `m` on, so do those of the records from `p` on.
 pub up_kept : (p m : ℕ) (rs : List Logged) → IsUp m rs → IsUp m (from p rs)
 up_kept p m [] up = tt
 up_kept p m (r ∷ rs) up =
@@ -43,19 +40,17 @@ up_head : (p : ℕ) (r : Logged) (rs : List Logged) (b : Bool) → nat_le p r.se
 up_head p r rs true is up rest = (le_so p r.seq is, up_kept p (r.seq + 1) rs up)
 up_head p r rs false is up rest = rest
 
--- If the numbers of records rise, those of the records from `p` on rise from `p` on.
 pub up_from : (p m : ℕ) (rs : List Logged) → IsUp m rs → IsUp p (from p rs)
 up_from p m [] up = tt
 up_from p m (r ∷ rs) up = up_head p r rs (nat_le p r.seq) refl up.1 (up_from p (r.seq + 1) rs up.1)
 
--- If the numbers of records rise from `p` on, all of them are from `p` on.
 pub all_from : (p : ℕ) (rs : List Logged) → IsUp p rs → from p rs ≡ rs
 all_from p [] up = refl
 all_from p (r ∷ rs) up =
     ap (λ b. cond b (r ∷ from p rs) (from p rs)) (is_le p r.seq up.0)
     ∙ ap (λ xs. r ∷ xs) (all_from p rs (up_weaker p (r.seq + 1) rs (omega (arith, up.0)) up.1))
 
--- If the numbers of records rise from `p` on, the position after a batch that they begin with is at or above `p`.
+-- A batch never moves the position back.
 pub position_up : (limit room p : ℕ) (rs : List Logged) → IsUp p rs
     → p ≤ position_after p (numbers_of (beginning limit room rs))
 position_up zero room p rs up = omega arith
@@ -77,8 +72,7 @@ part_head p r rs bs true le up above rest =
     (sym (is_above position r.seq (omega arith)))
 part_head p r rs bs false le up above rest = sym (all_from p (r ∷ rs) (le, up))
 
--- If the numbers of records rise from `p` on, the records are the batch that they begin with, and then the records from
--- the position after this batch on.
+-- The records are the batch that they begin with, then the records from the position after it on.
 pub parts : (limit room p : ℕ) (rs : List Logged) → IsUp p rs
     → rs ≡ beginning limit room rs ++ from (position_after p (numbers_of (beginning limit room rs))) rs
 parts zero room p rs up = sym (all_from p rs up)
@@ -90,22 +84,19 @@ parts (suc limit) room p (r ∷ rs) up =
 twice_head : (p position : ℕ) (r : Logged) (rs : List Logged) → p ≤ position → (b d : Bool) → nat_le p r.seq ≡ b
     → nat_le position r.seq ≡ d → from position (from p rs) ≡ from position rs
     → from position (cond b (r ∷ from p rs) (from p rs)) ≡ cond d (r ∷ from position rs) (from position rs)
-twice_head p position r rs le true true is at so =
-    ap (λ b. cond b (r ∷ from position (from p rs)) (from position (from p rs))) at ∙ ap (λ xs. r ∷ xs) so
-twice_head p position r rs le true false is at so =
-    ap (λ b. cond b (r ∷ from position (from p rs)) (from position (from p rs))) at ∙ so
-twice_head p position r rs le false true is at so =
-    absurd (omega (arith, le, le_so position r.seq at, above_so p r.seq is))
-twice_head p position r rs le false false is at so = so
+twice_head p position r rs le true true is is_at so =
+    ap (λ b. cond b (r ∷ from position (from p rs)) (from position (from p rs))) is_at ∙ ap (λ xs. r ∷ xs) so
+twice_head p position r rs le true false is is_at so =
+    ap (λ b. cond b (r ∷ from position (from p rs)) (from position (from p rs))) is_at ∙ so
+twice_head p position r rs le false true is is_at so =
+    absurd (omega (arith, le, le_so position r.seq is_at, above_so p r.seq is))
+twice_head p position r rs le false false is is_at so = so
 
--- If `position` isn't below `p`, then those of the records from `p` on that are from `position` on are all records from
--- `position` on.
 pub from_twice : (p position : ℕ) (rs : List Logged) → p ≤ position → from position (from p rs) ≡ from position rs
 from_twice p position [] le = refl
 from_twice p position (r ∷ rs) le =
     twice_head p position r rs le (nat_le p r.seq) (nat_le position r.seq) refl refl (from_twice p position rs le)
 
--- If no record is trimmed, the records that are left from a position on are all records from this position on.
 pub left_all : (floor p : ℕ) (rs : List Logged) → AreAbove floor rs → left_among floor p rs ≡ from p rs
 left_all floor p [] are = refl
 left_all floor p (r ∷ rs) are =
@@ -114,12 +105,10 @@ left_all floor p (r ∷ rs) are =
 
 -- ---- If a read doesn't move the position on, nothing is left
 
--- If all records have bounded sizes, so have those from `p` on.
 pub sized_from : (p : ℕ) (rs : List Logged) → AreSized rs → AreSized (from p rs)
 sized_from p rs are = all_filter IsSized (λ (r : Logged). nat_le p r.seq) rs are
 
--- If a batch may have at least one record, and it doesn't move the position `p` on, there are no records. This is
--- because one record always fits into a batch.
+-- One record always fits into a batch, so a batch that doesn't move the position means no records.
 pub stuck : (limit p : ℕ) (rs : List Logged) → IsUp p rs → AreSized rs
     → nat_lt p (position_after p (numbers_of (beginning (suc limit) 10485760 rs))) ≡ false → rs ≡ []
 stuck limit p [] up are is = refl
@@ -139,7 +128,6 @@ stuck limit p (r ∷ rs) up are is =
 
 -- ---- Payload bytes
 
--- Two lists of records together have the payload bytes of the first list plus those of the second.
 pub bytes_append : (xs ys : List Logged) → bytes_of (xs ++ ys) ≡ bytes_of xs + bytes_of ys
 bytes_append [] ys = omega arith
 bytes_append (x ∷ xs) ys = let n = bytes_append xs ys in omega arith

@@ -1,5 +1,4 @@
--- After each read of a shard, the records counted so far and those that are left make up all records of the shard
--- (`GoesOn`).
+-- After each read, the records counted and those left make up all records of the shard (`GoesOn`).
 use Rattle.std.proofs.Common.{◌≡◌, ℕ, ◌+◌, ◌*◌, ◌<◌, ◌≤◌, ◌^◌, Bool, true, false, List, [], ◌∷◌, ◌++◌, length, map}
 use Rattle.std.proofs.Common.{Option, Some, None, refl, sym, ap, subst, ◌∙◌, arith}
 use Rattle.std.specs.Prelude.{not, nat_lt, if◌then◌else◌, Result, Ok}
@@ -34,31 +33,24 @@ use Rattle.kcl_drill_summary.proofs.BatchLemmas.{bytes_append, bytes_stored}
 
 -- ---- Facts about the records of each shard
 
--- If sequence numbers rise from `p` on and stay below `q`, they rise from `p` on (`IsUp`).
 pub up_rising : (p : ℕ) (rs : List Logged) (q : ℕ) → RiseBetween p rs q → IsUp p rs
 up_rising p [] q is = tt
 up_rising p (r ∷ rs) q is = (is.0, up_rising (r.seq + 1) rs q is.1)
 
--- The sequence numbers of a shard's records rise.
 up_drawn : (log : Journal) (s sh : ℕ) → AreDrawn log s sh → IsUp 0 (records log s sh)
 up_drawn log s sh is = up_weaker 0 (start_of (shard_at log s sh)) (records log s sh) (omega arith) (up_rising _ _ _ is)
 
--- If sequence numbers rise from `p` on and stay below `q`, there are at most as many records as numbers from `p` to
--- below `q`.
 few_between : (p : ℕ) (rs : List Logged) (q : ℕ) → RiseBetween p rs q → p + length rs ≤ q
 few_between p [] q is = omega arith
 few_between p (r ∷ rs) q is = let n = few_between (r.seq + 1) rs q is.1 in omega (arith, n, is.0)
 
--- Records of bounded sizes have at most 10,485,760 payload bytes for each record.
 pub bytes_few : (rs : List Logged) → AreSized rs → bytes_of rs ≤ 10485760 * length rs
 bytes_few [] are = omega arith
 bytes_few (r ∷ rs) are = let n = bytes_few rs are.1 in omega (arith, n, are.0.0, are.0.1)
 
--- A shard that can be counted has fewer than 2^64 records.
 few_records : (log : Journal) (c s sh : ℕ) → CanCount log c s sh → length (records log s sh) < 2 ^ 64
 few_records log c s sh can = let n = few_between _ _ _ can.drawn in omega (arith, n, can.fits)
 
--- The records of a shard that can be counted have fewer than 2^128 payload bytes.
 few_bytes : (log : Journal) (c s sh : ℕ) → CanCount log c s sh → bytes_of (records log s sh) < 2 ^ 128
 few_bytes log c s sh can = let n = few_records log c s sh can in let m = bytes_few (records log s sh) can.sized in
     omega arith
@@ -68,8 +60,6 @@ few_bytes log c s sh can = let n = few_records log c s sh can in let m = bytes_f
 young : (c issued : ℕ) → issued ≡ c → is_expired_token c issued ≡ false
 young c issued is = grind (arith, nat_tests)
 
--- If the shard of an iterator can be counted, and the iterator was made at this clock, GetRecords answers with the
--- batch at the iterator's position.
 pub replied : (log : Journal) (c : ℕ) (iter : Iter) (limit : ℕ) → CanCount log c iter.stream iter.shard
     → iter ≡ iterator_at c iter.stream iter.shard iter.position →
     get_records log c iter limit
@@ -82,7 +72,6 @@ replied log c iter limit can is =
 
 -- ---- The records that are left
 
--- If a shard can be counted, its records that are left from a position on are all its records from this position on.
 pub left_is : (log : Journal) (c s sh p : ℕ) → CanCount log c s sh → left_from log c s sh p ≡ from p (records log s sh)
 left_is log c s sh p can =
     ap (λ b. if b then left_among (trim_floor log c s) p (records log s sh) else []) can.live
@@ -98,16 +87,12 @@ none_so (r ∷ rs) is = absurd cc
 abbrev Adds : ℕ → ℕ → ℕ → ℕ → Type 0
 Adds bound old more new = old + more < bound → new ≡ old + more
 
--- Let the sum of `old`, `more` and `rest` be `all`, which is below the bound. If `more` was added to `old`, the sum of
--- the new count and `rest` is `all`.
 total : (bound old more rest all new : ℕ) → old + (more + rest) ≡ all → all < bound → Adds bound old more new
     → new + rest ≡ all
 total bound old more rest all new is few adds =
     let n = adds (omega arith) in
     omega arith
 
--- Let the counts and the records `ls` that are left make up all records. This is still so after `bs`, the first records
--- of `ls`, were counted too, and `rest` is left.
 pub counts_on : (count bytes count' bytes' : ℕ) (ls bs rest all : List Logged) → CountsTo count bytes ls all
     → ls ≡ bs ++ rest → length all < 2 ^ 64 → bytes_of all < 2 ^ 128
     → Adds (2 ^ 64) count (length (map stored bs)) count'
@@ -121,7 +106,6 @@ counts_on count bytes count' bytes' ls bs rest all counts are few few_bytes adds
       (subst (λ n. Adds (2 ^ 128) bytes n bytes') (bytes_stored bs) adds_bytes);
 }
 
--- If nothing is left, the counts are those of all records.
 all_counted : (count bytes : ℕ) (rest all : List Logged) → rest ≡ [] → CountsTo count bytes rest all
     → (count ≡ length all) × (bytes ≡ bytes_of all)
 all_counted count bytes rest all none counts = (
@@ -134,8 +118,6 @@ all_counted count bytes rest all none counts = (
 
 -- ---- One read
 
--- The case of `read_on` (below) in which the read reached the end of the shard. No iterator is left to read on from, so
--- the counts must be those of all records.
 ended : (log : Journal) (c s sh p reach count bytes count' bytes' : ℕ) (next' : Option Iter) → CanCount log c s sh
     → ends_at log c s sh reach ≡ true → CountsTo count' bytes' (from reach (records log s sh)) (records log s sh)
     → next' ≡ next_above p None → GoesOn log c s sh count' bytes' next'
@@ -146,8 +128,6 @@ ended log c s sh p reach count bytes count' bytes' next' can ends counts is =
     (all_counted count' bytes' (from reach (records log s sh)) (records log s sh)
     (sym (left_is log c s sh reach can) ∙ none) counts)
 
--- The lemma `read_on` for a read after which the shard doesn't end. `b` says whether the read moved the position on. If
--- it didn't, nothing is left.
 goes_on : (log : Journal) (c s sh p reach count' bytes' : ℕ) (next' : Option Iter) (b : Bool) → CanCount log c s sh
     → nat_lt p reach ≡ b → (nat_lt p reach ≡ false → from reach (records log s sh) ≡ [])
     → CountsTo count' bytes' (from reach (records log s sh)) (records log s sh)
@@ -161,15 +141,14 @@ goes_on log c s sh p reach count' bytes' next' false can above stops counts is =
     subst (GoesOn log c s sh count' bytes') (sym is)
     (all_counted count' bytes' (from reach (records log s sh)) (records log s sh) (stops above) counts)
 
--- After one more GetRecords whose batch was counted (`Absorbs`), the counts and what is left still make up all records
--- of the shard (`GoesOn`).
-pub read_on : (log : Journal) (c by : ℕ) (iter : Iter) (count bytes count' bytes' : ℕ) (next' : Option Iter)
+-- Counting one more batch of GetRecords keeps `GoesOn`.
+pub read_on : (log : Journal) (c actor : ℕ) (iter : Iter) (count bytes count' bytes' : ℕ) (next' : Option Iter)
     (a : Result Reply Refusal) → CanCount log c iter.stream iter.shard
     → GoesOn log c iter.stream iter.shard count bytes (Some iter)
-    → a ≡ answer_of (decide log c by (command.Records iter 10000))
+    → a ≡ answer_of (decide log c actor (command.Records iter 10000))
     → Absorbs count bytes iter.position a count' bytes' next'
     → GoesOn log c iter.stream iter.shard count' bytes' next'
-read_on log c by iter count bytes count' bytes' next' a can goes is absorbs =
+read_on log c actor iter count bytes count' bytes' next' a can goes is absorbs =
     let up = up_drawn log iter.stream iter.shard can.drawn in
     let s = iter.stream in
     let sh = iter.shard in
@@ -190,12 +169,12 @@ read_on log c by iter count bytes count' bytes' next' a can goes is absorbs =
     let counts = subst (λ xs. CountsTo count bytes xs rs) ls_is goes.1 in
     let stops : nat_lt p reach ≡ false → from reach rs ≡ [] =
     λ below. sym rest ∙ ap (from reach) (stuck 9999 p ls up' sized below) in
-    let on : Adds (2 ^ 64) count (length (map stored bs)) count'
+    let is_on : Adds (2 ^ 64) count (length (map stored bs)) count'
     → Adds (2 ^ 128) bytes (bytes_of (map logged (map stored bs))) bytes'
     → CountsTo count' bytes' (from reach rs) rs =
     counts_on count bytes count' bytes' ls bs (from reach rs) rs counts both (few_records log c s sh can)
     (few_bytes log c s sh can) in
-    by_end log c s sh p reach count bytes count' bytes' next' bs a (ends_at log c s sh reach) refl can so absorbs on
+    by_end log c s sh p reach count bytes count' bytes' next' bs a (ends_at log c s sh reach) refl can so absorbs is_on
     stops
   where
     by_end : (log : Journal) (c s sh p reach count bytes count' bytes' : ℕ) (next' : Option Iter) (bs : List Logged)
@@ -205,30 +184,30 @@ read_on log c by iter count bytes count' bytes' next' a can goes is absorbs =
         → Adds (2 ^ 128) bytes (bytes_of (map logged (map stored bs))) bytes'
         → CountsTo count' bytes' (from reach (records log s sh)) (records log s sh))
         → (nat_lt p reach ≡ false → from reach (records log s sh) ≡ []) → GoesOn log c s sh count' bytes' next'
-    by_end log c s sh p reach count bytes count' bytes' next' bs a true ends can is absorbs on stops =
+    by_end log c s sh p reach count bytes count' bytes' next' bs a true ends can is absorbs is_on stops =
         let f = absorbs (map stored bs) None (behind c (left_from log c s sh reach)) (map shown (children log s sh))
         (is ∙ ap (λ b. Ok (if b then reply.Records (map stored bs) None (behind c (left_from log c s sh reach))
         (map shown (children log s sh)) else reply.Records (map stored bs) (Some (iterator_at c s sh reach))
         (behind c (left_from log c s sh reach)) [])) ends) in
-        ended log c s sh p reach count bytes count' bytes' next' can ends (on f.0 f.1) f.2
-    by_end log c s sh p reach count bytes count' bytes' next' bs a false ends can is absorbs on stops =
+        ended log c s sh p reach count bytes count' bytes' next' can ends (is_on f.0 f.1) f.2
+    by_end log c s sh p reach count bytes count' bytes' next' bs a false ends can is absorbs is_on stops =
         let f = absorbs (map stored bs) (Some (iterator_at c s sh reach)) (behind c (left_from log c s sh reach)) []
         (is ∙ ap (λ b. Ok (if b then reply.Records (map stored bs) None (behind c (left_from log c s sh reach))
         (map shown (children log s sh)) else reply.Records (map stored bs) (Some (iterator_at c s sh reach))
         (behind c (left_from log c s sh reach)) [])) ends) in
-        goes_on log c s sh p reach count' bytes' next' (nat_lt p reach) can refl stops (on f.0 f.1) f.2
+        goes_on log c s sh p reach count' bytes' next' (nat_lt p reach) can refl stops (is_on f.0 f.1) f.2
 
 -- ---- From the first record on
 
--- At the iterator at the beginning of a shard that can be counted, nothing is counted, and all records are left.
+-- At the beginning of a shard nothing is counted, and all records are left.
 pub begins : (log : Journal) (c s sh : ℕ) (iter : Iter) → CanCount log c s sh → iter ≡ iterator_at c s sh 0
     → GoesOn log c s sh 0 0 (Some iter)
 begins log c s sh iter can is =
-    let at : iter.position ≡ 0 = ap (λ (i : Iter). i.position) is in
+    let is_at : iter.position ≡ 0 = ap (λ (i : Iter). i.position) is in
     let all : left_from log c s sh iter.position ≡ records log s sh =
-    ap (left_from log c s sh) at ∙ left_is log c s sh 0 can
+    ap (left_from log c s sh) is_at ∙ left_is log c s sh 0 can
     ∙ all_from 0 (records log s sh) (up_drawn log s sh can.drawn) in (
-      is ∙ ap (iterator_at c s sh) (sym at),
+      is ∙ ap (iterator_at c s sh) (sym is_at),
       record {
         records = plus (length (left_from log c s sh iter.position)) _ (ap length all);
         payload = plus (bytes_of (left_from log c s sh iter.position)) _ (ap bytes_of all);

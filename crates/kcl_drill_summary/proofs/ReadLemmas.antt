@@ -1,5 +1,4 @@
--- Turns that only read leave the journal as it is. So a command after such turns is answered as right after the history
--- before these turns.
+-- Turns that only read leave the journal as it is, so later commands are answered as without them.
 use Rattle.std.proofs.Common.{◌≡◌, ℕ, true, List, [], ◌∷◌, ◌++◌, refl, ap, ◌∙◌, arith}
 use Rattle.std.specs.Prelude.{max, Result, Ok, Err, IfOk, OnErr}
 use Rattle.kds_defs.specs.declared.command.Command.{Command}
@@ -11,61 +10,62 @@ use Rattle.kds_defs.specs.Journal.{Journal, Line, with_lines}
 use Rattle.kds_defs.proofs.Walk.{Outcome, Refuses, Answers, Adds, Creates, walk}
 use Rattle.kcl_drill_summary.specs.Reads.{AreReads, HasRead, is_reading}
 
--- A command that only reads adds no line.
-none_by : (log : Journal) (c by : ℕ) (what : Command) (lines : List Line) (answer : Result Reply Refusal)
-    → Outcome log c by what lines answer
-    → is_reading what ≡ true → lines ≡ []
-none_by log c by _ _ _ (Refuses what r may) is = refl
-none_by log c by _ _ _ (Answers what r shows) is = refl
-none_by log c by _ _ _ (Adds _ _ _ (Creates name count fits)) is = absurd cc
-none_by log c by _ _ _ _ is = absurd cc
+none_by : (log : Journal) (c actor : ℕ) (command : Command) (lines : List Line) (answer : Result Reply Refusal)
+    → Outcome log c actor command lines answer
+    → is_reading command ≡ true → lines ≡ []
+none_by log c actor _ _ _ (Refuses command r may) is = refl
+none_by log c actor _ _ _ (Answers command r shows) is = refl
+none_by log c actor _ _ _ (Adds _ _ _ (Creates name count fits)) is = absurd cc
+none_by log c actor _ _ _ _ is = absurd cc
 
-no_lines : (log : Journal) (c by : ℕ) (what : Command) → is_reading what ≡ true → lines_of (decide log c by what) ≡ []
-no_lines log c by what is = none_by log c by what _ _ (walk log c by what) is
+no_lines : (log : Journal) (c actor : ℕ) (command : Command) → is_reading command ≡ true
+    → lines_of (decide log c actor command) ≡ []
+no_lines log c actor command is = none_by log c actor command _ _ (walk log c actor command) is
 
-clocks : (m c at now : ℕ) → at ≡ now → max c now ≡ max m now → max (max c at) now ≡ max m now
-clocks m c at now is so = omega arith
+clocks : (m c moment now : ℕ) → moment ≡ now → max c now ≡ max m now → max (max c moment) now ≡ max m now
+clocks m c moment now is so = omega arith
 
--- Turns that only read change neither the journal nor the greater of the clock and the moment of these turns.
-pub leaves : (by at : ℕ) (more h : List Turn) → AreReads by at more → (journal (more ++ h) ≡ journal h)
-    × (max (clock (more ++ h)) at ≡ max (clock h) at)
-leaves by at [] h are = (refl, refl)
-leaves by at (turn ∷ more) h are =
-    let rest = leaves by at more h are.1 in
+pub leaves : (actor moment : ℕ) (more h : List Turn) → AreReads actor moment more → (journal (more ++ h) ≡ journal h)
+    × (max (clock (more ++ h)) moment ≡ max (clock h) moment)
+leaves actor moment [] h are = (refl, refl)
+leaves actor moment (turn ∷ more) h are =
+    let rest = leaves actor moment more h are.1 in
     let none = no_lines (journal (more ++ h)) (clock (turn ∷ (more ++ h))) turn.by turn.what are.0.2 in (
       ap (λ ls. with_lines ls (journal (more ++ h))) none ∙ rest.0,
-      clocks (clock h) (clock (more ++ h)) turn.at at are.0.1 rest.1,
+      clocks (clock h) (clock (more ++ h)) turn.at moment are.0.1 rest.1,
     )
 
--- The command `what` as a turn of the actor `by` at the moment `at`.
+-- The command `command` as a turn of the actor `actor` at the moment `moment`.
 abbrev pub turn_of : ℕ → ℕ → Command → Turn
-turn_of by at what = record { by = by; at = at; what = what }
+turn_of actor moment command = record { by = actor; at = moment; what = command }
 
--- A command after turns that only read is answered as after the history `h` before these turns.
-pub answer_is : (by at : ℕ) (more h : List Turn) (what : Command) → AreReads by at more
-    → answer (more ++ h) (turn_of by at what) ≡ answer_of (decide (journal h) (max (clock h) at) by what)
-answer_is by at more h what are =
-    let l = leaves by at more h are in
-    ap (λ log. answer_of (decide log (max (clock (more ++ h)) at) by what)) l.0
-    ∙ ap (λ c. answer_of (decide (journal h) c by what)) l.1
+pub answer_is : (actor moment : ℕ) (more h : List Turn) (command : Command) → AreReads actor moment more
+    → answer (more ++ h) (turn_of actor moment command)
+    ≡ answer_of (decide (journal h) (max (clock h) moment) actor command)
+answer_is actor moment more h command are =
+    let l = leaves actor moment more h are in
+    ap (λ log. answer_of (decide log (max (clock (more ++ h)) moment) actor command)) l.0
+    ∙ ap (λ c. answer_of (decide (journal h) c actor command)) l.1
 
--- If a call returned the answer to a command after turns that only read, this is the answer right after the history
--- `h`.
-pub asked : {E : Type 0} (stands : List Turn → Type 0) (stands' : List Turn → Type 0) (by at : ℕ) (h : List Turn)
-    (what : Command) (r : Result (Result Reply Refusal) E) → (has : HasRead stands by at h)
-    → IfOk r (λ a. (a ≡ answer (has.more ++ h) (turn_of by at what)) × stands' (turn_of by at what ∷ (has.more ++ h)))
-    → IfOk r (λ a. a ≡ answer_of (decide (journal h) (max (clock h) at) by what))
-asked stands stands' by at h what (Ok a) has is = is.0 ∙ answer_is by at has.more h what has.are
-asked stands stands' by at h what (Err e) has is = tt
+-- An answer after turns that only read is the answer right after the history `h`.
+pub asked : {E : Type 0} (stands : List Turn → Type 0) (stands' : List Turn → Type 0) (actor moment : ℕ) (h : List Turn)
+    (command : Command) (r : Result (Result Reply Refusal) E) → (has : HasRead stands actor moment h)
+    → IfOk r (λ a. (a ≡ answer (has.more ++ h) (turn_of actor moment command))
+    × stands' (turn_of actor moment command ∷ (has.more ++ h)))
+    → IfOk r (λ a. a ≡ answer_of (decide (journal h) (max (clock h) moment) actor command))
+asked stands stands' actor moment h command (Ok a) has is = is.0 ∙ answer_is actor moment has.more h command has.are
+asked stands stands' actor moment h command (Err e) has is = tt
 
--- If a machine has answered only turns that read since the history `h`, this is still true after one more such turn.
--- The turn may have been answered, or memory may have run out.
-pub has_read : {E : Type 0} (stands : List Turn → Type 0) (stands' : List Turn → Type 0) (by at : ℕ) (h : List Turn)
-    (what : Command) (r : Result (Result Reply Refusal) E) → is_reading what ≡ true → (has : HasRead stands by at h)
-    → IfOk r (λ a. (a ≡ answer (has.more ++ h) (turn_of by at what)) × stands' (turn_of by at what ∷ (has.more ++ h)))
+-- One more reading turn keeps `HasRead`, even if memory ran out.
+pub has_read : {E : Type 0} (stands : List Turn → Type 0) (stands' : List Turn → Type 0) (actor moment : ℕ)
+    (h : List Turn)
+    (command : Command) (r : Result (Result Reply Refusal) E) → is_reading command ≡ true
+    → (has : HasRead stands actor moment h)
+    → IfOk r (λ a. (a ≡ answer (has.more ++ h) (turn_of actor moment command))
+    × stands' (turn_of actor moment command ∷ (has.more ++ h)))
     → OnErr r (stands' (has.more ++ h))
-    → HasRead stands' by at h
-has_read stands stands' by at h what (Ok a) reads has is kept =
-    record { more = turn_of by at what ∷ has.more; stands_now = is.1; are = ((refl, refl, reads), has.are) }
-has_read stands stands' by at h what (Err e) reads has is kept =
+    → HasRead stands' actor moment h
+has_read stands stands' actor moment h command (Ok a) reads has is kept =
+    record { more = turn_of actor moment command ∷ has.more; stands_now = is.1; are = ((refl, refl, reads), has.are) }
+has_read stands stands' actor moment h command (Err e) reads has is kept =
     record { more = has.more; stands_now = kept; are = has.are }

@@ -36,11 +36,10 @@ cut : (b : Bool) (o : Option Row) (key : ShardRef) (r : Row) → ((x : Row) → 
 cut true o key r old there = absurd cc
 cut false o key r old there = old r there
 
--- If the row of a key has this key before a line, the row also has this key after the line.
 keyed_after : (log : Journal) (line : Line) (e : Entry) (key : ShardRef) (o : Option Row) (r : Row)
     → ((x : Row) → o ≡ Some x → x.key ≡ key) → row_after log line e key o ≡ Some r → r.key ≡ key
-keyed_after log line (entry.LeaseMade k from) key o r old there =
-    made (same_key k key) (made_row log line.clock key from) o key r refl old there
+keyed_after log line (entry.LeaseMade k origin) key o r old there =
+    made (same_key k key) (made_row log line.clock key origin) o key r refl old there
 keyed_after log line (entry.LeaseCut k counter) key o r old there = cut (same_key k key) o key r old there
 keyed_after log line (entry.Taken k tenure counter owner) key o r old there =
     changed (taken_row (taken_count log + 1) owner) (same_key k key) o key r (λ x. refl) old there
@@ -48,23 +47,21 @@ keyed_after log line (entry.Renewed tenure counter) key o r old there =
     changed renewed_row (is_key (key_of log tenure) key) o key r (λ x. refl) old there
 keyed_after log line (entry.Freed tenure counter) key o r old there =
     changed freed_row (is_key (key_of log tenure) key) o key r (λ x. refl) old there
-keyed_after log line (entry.Marked tenure counter to) key o r old there =
-    changed (marked_row to) (is_key (key_of log tenure) key) o key r (λ x. refl) old there
+keyed_after log line (entry.Marked tenure counter target) key o r old there =
+    changed (marked_row target) (is_key (key_of log tenure) key) o key r (λ x. refl) old there
 keyed_after log line _ key o r old there = old r there
 
--- The row of a key has this key.
 keyed : (log : Journal) (key : ShardRef) (r : Row) → row log key ≡ Some r → r.key ≡ key
 keyed [] key r there = absurd cc
 keyed (line ∷ log) key r there = keyed_after log line line.what key (row log key) r (keyed log key) there
 
 -- ---- The key of a row is among the keys of all rows
 
--- Whether the key is one of the keys in the list.
+-- Whether the key is in the list.
 abbrev is_in : ShardRef → List ShardRef → Bool
 is_in key [] = false
 is_in key (k ∷ ks) = same_key k key || is_in key ks
 
--- The key is in the list with `k` added exactly if it is `k` or was in the list.
 in_with : (key k : ShardRef) (ks : List ShardRef) → is_in key (with_key k ks) ≡ (same_key k key || is_in key ks)
 in_with key k [] = refl
 in_with key k (j ∷ ks) = either (is_before k j) (in_with key k ks)
@@ -79,7 +76,6 @@ in_with key k (j ∷ ks) = either (is_before k j) (in_with key k ks)
     either true rest = refl
     either false rest = ap (λ b. same_key j key || b) rest ∙ swap (same_key j key) (same_key k key) (is_in key ks)
 
--- A key other than `k` that is in the list is still in it after `k` was taken out.
 in_without : (key k : ShardRef) (ks : List ShardRef) → same_key k key ≡ false → is_in key ks ≡ true
     → is_in key (without_key k ks) ≡ true
 in_without key k [] other is = absurd cc
@@ -103,7 +99,7 @@ some_if f o false r P so there = so r there
 in_by : (log : Journal) (line : Line) (e : Entry) (key : ShardRef) (o : Option Row) (r : Row) (ks : List ShardRef)
     → ((x : Row) → o ≡ Some x → is_in key ks ≡ true) → row_after log line e key o ≡ Some r
     → is_in key (row_keys_after e ks) ≡ true
-in_by log line (entry.LeaseMade k from) key o r ks so there = in_with key k ks ∙ either _ (same_key k key) there
+in_by log line (entry.LeaseMade k origin) key o r ks so there = in_with key k ks ∙ either _ (same_key k key) there
   where
     either : (x : Row) (b : Bool) → (if b then Some x else o) ≡ Some r → (b || is_in key ks) ≡ true
     either x true h = refl
@@ -119,11 +115,10 @@ in_by log line (entry.Renewed tenure counter) key o r ks so there =
     some_if renewed_row o (is_key (key_of log tenure) key) r _ so there
 in_by log line (entry.Freed tenure counter) key o r ks so there =
     some_if freed_row o (is_key (key_of log tenure) key) r _ so there
-in_by log line (entry.Marked tenure counter to) key o r ks so there =
-    some_if (marked_row to) o (is_key (key_of log tenure) key) r _ so there
+in_by log line (entry.Marked tenure counter target) key o r ks so there =
+    some_if (marked_row target) o (is_key (key_of log tenure) key) r _ so there
 in_by log line _ key o r ks so there = so r there
 
--- If a key has a row, it is among the keys of all rows.
 in_keys : (log : Journal) (key : ShardRef) (r : Row) → row log key ≡ Some r → is_in key (row_keys log) ≡ true
 in_keys [] key r there = absurd cc
 in_keys (line ∷ log) key r there = in_by log line line.what key (row log key) r (row_keys log) (in_keys log key) there
@@ -148,14 +143,11 @@ first_head log k key ks (Some r) false is same rest =
     let has : same_key r.key key ≡ false = ap (λ j. same_key j key) (keyed log k r is) ∙ same in
     ap (λ b. cond b (Some r) (row_among (rows_at log ks) key)) has ∙ rest
 
--- If the key `key` is among `ks`, the first of the rows of `ks` that has this key is the row of this key. Otherwise no
--- row has this key.
 first_among : (log : Journal) (ks : List ShardRef) (key : ShardRef)
     → row_among (rows_at log ks) key ≡ (if is_in key ks then row log key else None)
 first_among log [] key = refl
 first_among log (k ∷ ks) key = first_head log k key ks (row log k) (same_key k key) refl refl (first_among log ks key)
 
--- The first of all rows of the journal that has the key `key` is the row of this key.
 pub row_found : (log : Journal) (key : ShardRef) → row_among (rows log) key ≡ row log key
 row_found log key = first_among log (row_keys log) key ∙ either (row log key) refl
   where

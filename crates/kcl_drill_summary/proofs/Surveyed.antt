@@ -1,5 +1,4 @@
--- Those keys of a survey that belong to the drill's stream are the keys of its listed shards, and each of these shards
--- can be counted. So the entries for these keys make the text of the summary.
+-- A survey's keys of the drill's stream are its listed shards, so their entries make the summary's text.
 use Rattle.std.proofs.Common.{◌≡◌, ℕ, zero, suc, ◌+◌, ◌<◌, ◌≤◌, Bool, true, false, List, [], ◌∷◌, ◌++◌, length, map}
 use Rattle.std.proofs.Common.{Some, refl, sym, ap, subst, ◌∙◌, arith}
 use Rattle.std.specs.Prelude.{◌==◌, ◌||◌, cond, not, slice_get, if◌then◌else◌, Result, Ok, Err, IfOk}
@@ -28,28 +27,24 @@ use Rattle.kcl_drill_summary.proofs.Totals.{bytes_in, few_bytes_in, few_in, reco
 
 -- ---- The number of a listed shard is its index
 
--- The shard `x` of the stream `s` is the one at the index of its number, and it wasn't closed before the trim floor.
+-- The shard `x` is at the index of its number, and wasn't closed before the trim floor.
 abbrev Stands : Journal → ℕ → ℕ → ShardState → Type 0
 Stands log c s x = (shard_at log s x.no ≡ Some x) × (not (is_closed_below (trim_floor log c s) x) ≡ true)
 
--- Let the shards `xs` be numbered from `n` on, and be the shards of `all` from the index `n` on. Then each shard of
--- `xs` is at the index of its number in `all`.
 stand_at : (all xs : List ShardState) (n : ℕ) → AreNumbered n xs → ((i : ℕ) → slice_get xs i ≡ slice_get all (n + i))
     → AllByRecursion (λ (x : ShardState). slice_get all x.no ≡ Some x) xs
-stand_at all [] n numbers at = tt
-stand_at all (x ∷ xs) n numbers at =
+stand_at all [] n numbers is_at = tt
+stand_at all (x ∷ xs) n numbers is_at =
     let here : n + 0 ≡ x.no = omega (arith, numbers.0) in (
-      ap (slice_get all) (sym here) ∙ sym (at 0),
+      ap (slice_get all) (sym here) ∙ sym (is_at 0),
       stand_at all xs (n + 1) numbers.1 (λ i. let e : n + suc i ≡ n + 1 + i = omega arith in
-          at (suc i) ∙ ap (slice_get all) e),
+          is_at (suc i) ∙ ap (slice_get all) e),
     )
 
--- If shards are numbered from 0 on, each is at the index of its number.
 all_stand : (xs : List ShardState) → AreNumbered 0 xs
     → AllByRecursion (λ (x : ShardState). slice_get xs x.no ≡ Some x) xs
 all_stand xs numbers = stand_at xs xs 0 numbers (λ i. let e : i ≡ 0 + i = omega arith in ap (slice_get xs) e)
 
--- Each listed shard of a stream is at the index of its number and wasn't closed before the trim floor (`Stands`).
 listed_stand : (log : Journal) (c s : ℕ) (xs : List ShardState)
     → AllByRecursion (λ (x : ShardState). shard_at log s x.no ≡ Some x) xs
     → AllByRecursion (Stands log c s) (listed_among (trim_floor log c s) xs)
@@ -60,7 +55,6 @@ listed_stand log c s (x ∷ xs) are =
     cond_both (not (is_closed_below (trim_floor log c s) x)) (x ∷ ys) ys (AllByRecursion (Stands log c s))
     (λ is. ((are.0, is), rest)) (λ not. rest)
 
--- If the stream is live and `Stands` holds for the shard, the shard is listed.
 is_listed_at : (log : Journal) (c s : ℕ) (x : ShardState) → is_live log s ≡ true → Stands log c s x
     → is_listed log c s x.no ≡ true
 is_listed_at log c s x live stands =
@@ -70,17 +64,15 @@ is_listed_at log c s x live stands =
 
 -- ---- The facts about a history that counting relies on
 
--- In each stream, the shards are numbered from 0 on. The sequence numbers of the records rise and are at most the last
--- number, and the sizes of the records are bounded.
+-- Facts about the journal: shards are numbered from 0, record numbers rise up to the last, and sizes are bounded.
 pub record Facts (log : Journal) : Type 0 where
   pub numbered : (s : ℕ) → AreNumbered 0 (shards log s)
   pub drawn : (s sh : ℕ) → AreDrawn log s sh
   pub fits : (s : ℕ) → next_number log s ≤ last_number
   pub sized : (s sh : ℕ) → AllByRecursion IsSized (records log s sh)
 
-module _ (log : Journal) (facts : Facts log) (c s : ℕ) (whole : (sh : ℕ)
-    → AreAbove (trim_floor log c s) (records log s sh)) where
-  -- If the stream `s` is live, each listed shard of this stream can be counted.
+module _ (log : Journal) (facts : Facts log) (c s : ℕ)
+    (whole : (sh : ℕ) → AreAbove (trim_floor log c s) (records log s sh)) where
   counts_at : (x : ShardState) → is_live log s ≡ true → Stands log c s x → CanCount log c s x.no
   counts_at x live stands = record {
     live = live;
@@ -91,7 +83,6 @@ module _ (log : Journal) (facts : Facts log) (c s : ℕ) (whole : (sh : ℕ)
     sized = facts.sized s x.no;
   }
 
-  -- If the keys `rest` are countable, so are the keys of listed shards of a live stream together with `rest`.
   of_shards : (t : ℕ) (xs : List ShardState) (rest : List ShardRef) → is_live log t ≡ true
       → AllByRecursion (Stands log c t) xs → AreCountable log c s rest → AreCountable log c s (refs_of t xs ++ rest)
   of_shards t [] rest live are more = more
@@ -102,7 +93,6 @@ module _ (log : Journal) (facts : Facts log) (c s : ℕ) (whole : (sh : ℕ)
     of_shards t xs rest live are.1 more,
   )
 
-  -- Of the listed keys of live streams, those of the stream `s` are countable.
   all_countable : (p : ℕ → Bool) (ns : List ℕ) → ((n : ℕ) → p n ≡ is_live log n)
       → AreCountable log c s (listed_in log c (filter p ns))
   all_countable p [] is = tt
@@ -123,7 +113,6 @@ module _ (log : Journal) (facts : Facts log) (c s : ℕ) (whole : (sh : ℕ)
 
 -- ---- The keys of one stream
 
--- None of the keys of another stream belongs to the stream `s`.
 none_of : (s t : ℕ) (xs : List ShardState) (rest : List ShardRef) → (t == s) ≡ false
     → of_stream s (refs_of t xs ++ rest) ≡ of_stream s rest
 none_of s t [] rest other = refl
@@ -131,7 +120,6 @@ none_of s t (x ∷ xs) rest other =
     ap (λ b. cond b (ref t x.no ∷ of_stream s (refs_of t xs ++ rest)) (of_stream s (refs_of t xs ++ rest))) other
     ∙ none_of s t xs rest other
 
--- All keys of the stream `s` belong to it.
 all_of : (s : ℕ) (xs : List ShardState) (rest : List ShardRef) → of_stream s rest ≡ []
     → of_stream s (refs_of s xs ++ rest) ≡ refs_of s xs
 all_of s [] rest none = none
@@ -143,7 +131,6 @@ all_of s (x ∷ xs) rest none =
 apart_below : (t s : ℕ) → s < t → (t == s) ≡ false
 apart_below t s h = grind (arith, nat_tests)
 
--- Of the listed keys of streams with greater numbers, none belongs to the stream `s`.
 above_none : (log : Journal) (c s : ℕ) (q : ℕ → Bool) (n count : ℕ) → s < n
     → of_stream s (listed_in log c (filter q (numbers_from n count))) ≡ []
 above_none log c s q n zero below = refl
@@ -153,7 +140,6 @@ above_none log c s q n (suc count) below =
     cond_both (q n) (n ∷ ns) ns (λ ms. of_stream s (listed_in log c ms) ≡ [])
     (λ is. none_of s n (listed_shards log c n) (listed_in log c ns) (apart_below n s below) ∙ rest) (λ not. rest)
 
--- A number that is found among the numbers from `n` on is at least `n`.
 found_above : (p q : ℕ → Bool) (n count s : ℕ) → find p (filter q (numbers_from n count)) ≡ Some s → n ≤ s
 found_above p q n zero s h = absurd cc
 found_above p q n (suc count) s h = either (q n) (p n) refl (λ k. found_above p q (n + 1) count s k) h
@@ -170,8 +156,6 @@ found_above p q n (suc count) s h = either (q n) (p n) refl (λ k. found_above p
     either true false is later h =
         omega (arith, later (ap (λ d. cond d (Some n) (find p (filter q (numbers_from (n + 1) count)))) (sym is) ∙ h))
 
--- Let the stream `s` be found among the streams with the numbers from `n` on. Then those of the listed keys of these
--- streams that belong to `s` are the keys of the listed shards of `s`.
 picked : (log : Journal) (c : ℕ) (p q : ℕ → Bool) (n count s : ℕ) → find p (filter q (numbers_from n count)) ≡ Some s
     → of_stream s (listed_in log c (filter q (numbers_from n count))) ≡ refs_of s (listed_shards log c s)
 picked log c p q n zero s h = absurd cc
@@ -202,13 +186,11 @@ picked log c p q n (suc count) s h = either (q n) (p n) refl (λ k. picked log c
 
 -- ---- The summary
 
--- What the summary says of the keys of shards is what it says of these shards.
 keys_summed : (log : Journal) (s : ℕ) (xs : List ShardState)
     → map (summed_key log) (refs_of s xs) ≡ map (summed_at log s) xs
 keys_summed log s [] = refl
 keys_summed log s (x ∷ xs) = ap (λ ys. summed_at log s x ∷ ys) (keys_summed log s xs)
 
--- If shards are numbered from `n` on, the numbers of the listed ones among them rise from `n` on.
 rise_listed : (n : ℕ) (floor : ℕ) (xs : List ShardState) → AreNumbered n xs
     → RiseFrom n (map (λ (x : ShardState). x.no) (listed_among floor xs))
 rise_listed n floor [] numbers = tt
@@ -223,13 +205,11 @@ rise_listed n floor (x ∷ xs) numbers =
 abbrev numbers_in : List ShardState → List ℕ
 numbers_in xs = map (λ (x : ShardState). x.no) xs
 
--- The total number of records in a summary of shards is the total number of records in these shards.
 counts_in : (log : Journal) (s : ℕ) (xs : List ShardState) → sum_of (λ x. x.count) (map (summed_at log s) xs)
     ≡ records_in log s (numbers_in xs)
 counts_in log s [] = refl
 counts_in log s (x ∷ xs) = ap (λ n. length (records log s x.no) + n) (counts_in log s xs)
 
--- The total number of payload bytes in a summary of shards is the total number of payload bytes in these shards.
 payload_in : (log : Journal) (s : ℕ) (xs : List ShardState) → sum_of (λ x. x.bytes) (map (summed_at log s) xs)
     ≡ bytes_in log s (numbers_in xs)
 payload_in log s [] = refl
@@ -240,7 +220,6 @@ rise_of : (log : Journal) (c s : ℕ) (b : Bool) → AreNumbered 0 (shards log s
 rise_of log c s true numbers = rise_listed 0 (trim_floor log c s) (shards log s) numbers
 rise_of log c s false numbers = tt
 
--- All listed shards of a stream together have fewer than 2^128 records and fewer than 2^128 payload bytes (`AreFew`).
 sums_few : (log : Journal) → Facts log → (c s : ℕ) → AreFew (map (summed_at log s) (listed_shards log c s))
 sums_few log facts c s =
     let shs = numbers_in (listed_shards log c s) in
@@ -250,14 +229,12 @@ sums_few log facts c s =
       omega (arith, n, m, payload_in log s (listed_shards log c s)),
     )
 
--- Each key of a survey that belongs to the stream `s` is countable.
 pub countable : (log : Journal) → Facts log → (c s : ℕ) → ((sh : ℕ) → AreAbove (trim_floor log c s) (records log s sh))
     → AreCountable log c s (listed_in log c (live_streams log))
 countable log facts c s whole =
     all_countable log facts c s whole (is_live log) (numbers_from 1 (made_count log)) (λ n. refl)
 
--- Let `xs` be what the summary says of those keys of a survey that belong to the drill's stream. If the code makes the
--- text of `xs`, this text is the drill's summary.
+-- The text made of a survey's keys of the drill's stream is the drill's summary.
 pub told_text : {E : Type 0} (log : Journal) (c s : ℕ) (xs : List Summed) (r : Result (List ℕ) E) → Facts log
     → stream_named log drill_name ≡ Some s
     → xs ≡ map (summed_key log) (of_stream s (listed_in log c (live_streams log)))

@@ -1,5 +1,4 @@
--- The total number of records in the shards of a stream is below the stream's next sequence number, so it fits into 64
--- bits.
+-- A stream's total number of records is below its next sequence number, so it fits into 64 bits.
 use Rattle.std.proofs.Common.{◌≡◌, ℕ, ◌+◌, ◌*◌, ◌<◌, ◌≤◌, ◌^◌, Bool, true, false, List, [], ◌∷◌, ◌++◌, length, refl, ap}
 use Rattle.std.proofs.Common.{arith}
 use Rattle.std.specs.Prelude.{◌==◌, ◌&&◌, if◌then◌else◌}
@@ -27,7 +26,7 @@ bytes_in log s (sh ∷ shs) = bytes_of (records log s sh) + bytes_in log s shs
 
 -- ---- After one more line
 
--- The sum of the values of `f` over a list of numbers.
+-- The sum of `f` over a list of numbers.
 abbrev sums : (ℕ → ℕ) → List ℕ → ℕ
 sums f [] = 0
 sums f (x ∷ xs) = f x + sums f xs
@@ -40,8 +39,6 @@ bit b = if b then 1 else 0
 abbrev one_at : ℕ → ℕ → ℕ
 one_at sh n = bit (sh == n)
 
--- If `g` is `f` plus 1 at `sh` alone, and `sh` is below all numbers of the list, then `f` and `g` have the same sum
--- over the list.
 none_above : (f g : ℕ → ℕ) (sh m : ℕ) (xs : List ℕ) → sh < m → RiseFrom m xs → ((n : ℕ) → g n ≡ f n + one_at sh n)
     → sums g xs ≡ sums f xs
 none_above f g sh m [] below rise is = refl
@@ -56,8 +53,6 @@ none_above f g sh m (x ∷ xs) below rise is =
     apart : sh < x → one_at sh x ≡ 0
     apart h = ap bit (other h)
 
--- If `g` is `f` plus 1 at `sh` alone, and the numbers of the list rise, the sum of `g` is at most 1 more than that of
--- `f`.
 one_more : (f g : ℕ → ℕ) (sh m : ℕ) (xs : List ℕ) → RiseFrom m xs → ((n : ℕ) → g n ≡ f n + one_at sh n)
     → sums g xs ≤ sums f xs + 1
 one_more f g sh m [] rise is = omega arith
@@ -75,12 +70,11 @@ one_more f g sh m (x ∷ xs) rise is = either (sh == x) refl (one_more f g sh (x
         let none : one_at sh x ≡ 0 = ap bit other in
         omega (arith, is x, none, later)
 
-lengths_if : (b : Bool) (before : List Logged) (r : Logged) → length (if b then before ++ (r ∷ []) else before)
-    ≡ length before + bit b
-lengths_if true before r = length-append before (r ∷ [])
-lengths_if false before r = omega arith
+lengths_if : (b : Bool) (old : List Logged) (r : Logged) → length (if b then old ++ (r ∷ []) else old)
+    ≡ length old + bit b
+lengths_if true old r = length-append old (r ∷ [])
+lengths_if false old r = omega arith
 
--- A line adds at most as many records to these shards together as it takes sequence numbers of the stream.
 more_by : (line : Line) (log : Journal) (e : Entry) (s m : ℕ) (shs : List ℕ) → RiseFrom m shs
     → sums (λ sh. length (records_after line e s sh (records log s sh))) shs ≤ draws e s
     + sums (λ sh. length (records log s sh)) shs
@@ -98,7 +92,7 @@ more_by line log (entry.Put stream shard number hash bytes key_bytes) s m shs ri
         (λ n. lengths_if (shard == n) (records log s n) r) in
         omega arith
     either false other = omega arith
-more_by line log (entry.Split stream shard at number low high) s m shs rise = omega arith
+more_by line log (entry.Split stream shard key_hash number low high) s m shs rise = omega arith
 more_by line log (entry.Merged stream shard other number child) s m shs rise = omega arith
 more_by line log _ s m shs rise = omega arith
 
@@ -110,21 +104,18 @@ none_yet : (s : ℕ) (shs : List ℕ) → sums (λ sh. length (records [] s sh))
 none_yet s [] = refl
 none_yet s (sh ∷ shs) = let rest = none_yet s shs in omega arith
 
--- The total number of records in shards of a stream with rising numbers is below the stream's next sequence number.
 below_next : (log : Journal) (s m : ℕ) (shs : List ℕ) → RiseFrom m shs
     → sums (λ sh. length (records log s sh)) shs < next_number log s
 below_next [] s m shs rise = omega (arith, none_yet s shs)
 below_next (line ∷ log) s m shs rise =
     omega (arith, more_by line log line.what s m shs rise, below_next log s m shs rise)
 
--- If the next sequence number is at most the last number, these shards have fewer than 2^64 records together.
 pub few_in : (log : Journal) (s m : ℕ) (shs : List ℕ) → next_number log s ≤ last_number → RiseFrom m shs
     → records_in log s shs < 2 ^ 64
 few_in log s m shs fits rise = omega (arith, in_sums log s shs, below_next log s m shs rise, fits)
 
 -- ---- Payload bytes
 
--- The total number of payload bytes in these shards is at most 10,485,760 for each record.
 pub few_bytes_in : (log : Journal) (s : ℕ) (shs : List ℕ) → ((sh : ℕ) → AreSized (records log s sh))
     → bytes_in log s shs ≤ 10485760 * records_in log s shs
 few_bytes_in log s [] sized = omega arith

@@ -5,20 +5,20 @@ use Rattle.kds_defs.specs.declared.command.Command.{Command}
 use Rattle.kds_defs.specs.declared.command.Command.TheVariants as command
 use Rattle.kds_defs.specs.declared.command.Turn.{Turn}
 
--- Whether the command only reads: it is a survey, GetShardIterator or GetRecords.
-abbrev pub is_reading : Command → Bool
+-- Whether the command only reads: a survey, GetShardIterator or GetRecords.
+abbrev pub is_reading : (command : Command) → Bool
 is_reading command.Survey = true
-is_reading (command.GetIterator name sh from) = true
+is_reading (command.GetIterator name sh start) = true
 is_reading (command.Records iter limit) = true
 is_reading _ = false
 
--- Each of the turns is by the actor `by` at the moment `at`, and only reads.
-abbrev pub AreReads : ℕ → ℕ → List Turn → Type 0
-AreReads by at more = AllByRecursion (λ turn. (turn.by ≡ by) × (turn.at ≡ at) × (is_reading turn.what ≡ true)) more
+-- Each turn only reads, by the actor `actor` at the moment `moment`.
+abbrev pub AreReads : (actor moment : ℕ) (more : List Turn) → Type 0
+AreReads actor moment more =
+    AllByRecursion (λ turn. (turn.by ≡ actor) × (turn.at ≡ moment) × (is_reading turn.what ≡ true)) more
 
--- The machine has answered the history `h` and then only turns of the actor `by` at the moment `at` that only read.
--- `stands` says which histories the machine stands for.
-pub record HasRead (stands : List Turn → Type 0) (by at : ℕ) (h : List Turn) : Type 0 where
+-- The machine has answered `h` and then only turns that read.
+pub record HasRead (stands : List Turn → Type 0) (actor moment : ℕ) (h : List Turn) : Type 0 where
   pub more : List Turn
   pub stands_now : stands (more ++ h)
-  pub are : AreReads by at more
+  pub are : AreReads actor moment more

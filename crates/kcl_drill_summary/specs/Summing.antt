@@ -1,6 +1,4 @@
--- What each step of a summary does on any machine. `stands` says which histories the machine stands for before the
--- step. The actor of all commands is `by`, and their moment is `at`. A step promises nothing if memory runs out, so
--- that `result` is an error.
+-- What each step of a summary does on any machine; a step promises nothing if memory runs out.
 use Rattle.std.specs.Prelude.{ℕ, ◌≡◌, ◌+◌, ◌<◌, ◌^◌, ◌==◌, true, max, List, length, map, Option, Some, Result, Ok, IfOk}
 use Rattle.kds_base.specs.declared.lease_key.ShardRef.{ShardRef}
 use Rattle.kds_defs.specs.declared.command.Turn.{Turn}
@@ -24,10 +22,9 @@ use Rattle.kcl_drill_summary.specs.Counting.{AreCountable, CanCount, CountsKey, 
 use Rattle.kcl_drill_summary.specs.Counting.{summed_key}
 use Rattle.kcl_drill_summary.specs.Reads.{HasRead}
 
--- `a` is the answer to a read at `position`. If `a` has a batch, `count'` and `bytes'` are the counts with the records
--- of this batch added, as long as these sums are below 2^64 and 2^128. `next'` is the iterator from which reading goes
--- on (`next_above`).
-abbrev pub Absorbs : ℕ → ℕ → ℕ → Result Reply Refusal → ℕ → ℕ → Option Iter → Type 0
+-- The batch in `a` is added to the counts if the sums stay below 2^64 records and 2^128 bytes.
+abbrev pub Absorbs : (count bytes position : ℕ) (a : Result Reply Refusal) (count' bytes' : ℕ) (next' : Option Iter) →
+    Type 0
 Absorbs count bytes position a count' bytes' next' =
     (batch : List Stored) (next : Option Iter) (behind : ℕ) (children : List Shard)
     → a ≡ Ok (reply.Records batch next behind children)
@@ -35,42 +32,40 @@ Absorbs count bytes position a count' bytes' next' =
     × (bytes + bytes_of (map logged batch) < 2 ^ 128 → bytes' ≡ bytes + bytes_of (map logged batch))
     × (next' ≡ next_above position next)
 
--- The step reads once from the iterator `iter`, after `count` was counted. Suppose that the counts and the records left
--- from `iter` on make up all records of the shard (`GoesOn`). Then so do the new counts and the records that are left
--- after the step. `result` has the new counts and the iterator from which reading goes on.
-abbrev pub ReadsOn : {E : Type 0} → (List Turn → Type 0) → ℕ → ℕ → Iter → Count → Result (Count × Option Iter) E
-    → Type 0
-ReadsOn stands by at iter count result =
-    (h : List Turn) → HasRead stands by at h → CanCount (journal h) (max (clock h) at) iter.stream iter.shard
-    → GoesOn (journal h) (max (clock h) at) iter.stream iter.shard count.count count.bytes (Some iter)
-    → IfOk result (λ r. GoesOn (journal h) (max (clock h) at) iter.stream iter.shard r.0.count r.0.bytes r.1)
+-- After one read from `iter`, the new counts and the records left still make up the shard (`GoesOn`).
+abbrev pub ReadsOn : {E : Type 0}
+    → (stands : List Turn → Type 0) (actor moment : ℕ) (iter : Iter) (count : Count)
+    (result : Result (Count × Option Iter) E) → Type 0
+ReadsOn stands actor moment iter count result =
+    (h : List Turn) → HasRead stands actor moment h → CanCount (journal h) (max (clock h) moment) iter.stream iter.shard
+    → GoesOn (journal h) (max (clock h) moment) iter.stream iter.shard count.count count.bytes (Some iter)
+    → IfOk result (λ r. GoesOn (journal h) (max (clock h) moment) iter.stream iter.shard r.0.count r.0.bytes r.1)
 
--- If the iterator `from` is at the beginning of a shard whose records can be counted, the step counts these records.
--- `result` has their number and the number of their payload bytes.
-abbrev pub CountsFrom : {E : Type 0} → (List Turn → Type 0) → ℕ → ℕ → Iter → Result Count E → Type 0
-CountsFrom stands by at from result =
-    (h : List Turn) → HasRead stands by at h → CanCount (journal h) (max (clock h) at) from.stream from.shard
-    → from ≡ iterator_at (max (clock h) at) from.stream from.shard 0
-    → IfOk result (λ n. (n.count ≡ length (records (journal h) from.stream from.shard))
-    × (n.bytes ≡ bytes_of (records (journal h) from.stream from.shard)))
+-- From the beginning of a shard that can be counted, the step counts all its records.
+abbrev pub CountsFrom : {E : Type 0}
+    → (stands : List Turn → Type 0) (actor moment : ℕ) (iter : Iter) (result : Result Count E) → Type 0
+CountsFrom stands actor moment iter result =
+    (h : List Turn) → HasRead stands actor moment h → CanCount (journal h) (max (clock h) moment) iter.stream iter.shard
+    → iter ≡ iterator_at (max (clock h) moment) iter.stream iter.shard 0
+    → IfOk result (λ n. (n.count ≡ length (records (journal h) iter.stream iter.shard))
+    × (n.bytes ≡ bytes_of (records (journal h) iter.stream iter.shard)))
 
--- If the key belongs to the drill's stream, the step counts the records of the key's shard, and `result` has the count
--- (`CountsKey`). If the key belongs to another stream, `result` has no count.
-abbrev pub FindsCount : {E : Type 0} → (List Turn → Type 0) → ℕ → ℕ → ShardRef → Result (Option Count) E → Type 0
-FindsCount stands by at key result =
-    (h : List Turn) (s : ℕ) → HasRead stands by at h → stream_named (journal h) drill_name ≡ Some s
-    → ((key.stream == s) ≡ true → CanCount (journal h) (max (clock h) at) s key.shard)
+-- The step counts the shard of a key of the drill's stream, and gives no count for another key.
+abbrev pub FindsCount : {E : Type 0}
+    → (stands : List Turn → Type 0) (actor moment : ℕ) (key : ShardRef) (result : Result (Option Count) E) → Type 0
+FindsCount stands actor moment key result =
+    (h : List Turn) (s : ℕ) → HasRead stands actor moment h → stream_named (journal h) drill_name ≡ Some s
+    → ((key.stream == s) ≡ true → CanCount (journal h) (max (clock h) moment) s key.shard)
     → IfOk result (λ found. CountsKey (journal h) s key found)
 
--- The summary of the drill's stream, `s`, can be made from the history `h`. The machine has only read since `h`,
--- `among` are all rows after `h`, and the shards of those `keys` that belong to `s` can be counted.
-pub record CanTell (stands : List Turn → Type 0) (by at : ℕ) (h : List Turn) (s : ℕ) (keys : List ShardRef)
+-- The machine has only read since `h`, `among` are the rows after it, and the shards of `s` can be counted.
+pub record CanTell (stands : List Turn → Type 0) (actor moment : ℕ) (h : List Turn) (s : ℕ) (keys : List ShardRef)
     (among : List Row) : Type 0 where
-  pub read : HasRead stands by at h
+  pub read : HasRead stands actor moment h
   pub rows : among ≡ rows (journal h)
   pub named : stream_named (journal h) drill_name ≡ Some s
-  pub countable : AreCountable (journal h) (max (clock h) at) s keys
+  pub countable : AreCountable (journal h) (max (clock h) moment) s keys
 
--- `xs` is what the summary says of the shards of those keys that belong to the stream `s`, in the order of the keys.
-abbrev pub IsTold : Journal → ℕ → List ShardRef → List Summed → Type 0
+-- `xs` is the summary of the shards of `s` among the keys, in their order.
+abbrev pub IsTold : (log : Journal) (s : ℕ) (keys : List ShardRef) (xs : List Summed) → Type 0
 IsTold log s keys xs = xs ≡ map (summed_key log) (of_stream s keys)

@@ -1,5 +1,4 @@
--- The turns of a drill's root and feeder. The root makes the generator's first command as its only turn, and the feeder
--- makes the others, one after another.
+-- The root makes the generator's first command as its only turn, and the feeder makes the others.
 use Rattle.std.proofs.Common.{◌≡◌, ◌⊎◌, inl, inr, ℕ, ◌<◌, Bool, true, false, List, [], ◌∷◌, ◌++◌, length, refl, sym, ap}
 use Rattle.std.proofs.Common.{subst, ◌∙◌, arith, append_assoc, Result, Ok, Err}
 use Rattle.std.specs.Prelude.{take, drop, IfErr, OnErr, OnOk}
@@ -17,22 +16,20 @@ use Rattle.kcl_drill_threads.proofs.Passing.{none_before_one}
 
 -- ---- The root
 
--- The root made the first of the commands `coming`, if there is one, as its only turn. This is the newest turn that the
--- root has seen. `left` are the other commands.
+-- The root made the first of `coming`, if any, as its only turn and the newest it has seen; `left` are the others.
 pub record HasMadeFirst (coming left : List Command) (p : PassValue) : Type 0 where
   pub asked : HasAsked (take 1 coming) p
   pub left_are : left ≡ drop 1 coming
   pub older : List Turn
   pub seen : p.seen ≡ p.own ++ older
 
--- If the root's pass was new, and the generator's next command became its turn or there was none, then `HasMadeFirst`
--- holds.
+-- A new pass after the generator's next command, if any, has made the first (`HasMadeFirst`).
 pub made_first : (more : Bool) (coming left : List Command) (a b : PassValue) → a.own ≡ [] → IsKept a b
     → Asks more coming left a b → HasMadeFirst coming left b
-made_first true coming left a b new kept (what, first, answer, is) =
-    let own : b.own ≡ turn_of a.by what ∷ [] = is.own ∙ ap (λ ts. turn_of a.by what ∷ ts) new in
+made_first true coming left a b new kept (command, first, answer, is) =
+    let own : b.own ≡ turn_of a.by command ∷ [] = is.own ∙ ap (λ ts. turn_of a.by command ∷ ts) new in
     record {
-      asked = subst (λ cs. HasAsked (take 1 cs) b) (sym first) (asked_more [] what a b kept.by new is.own);
+      asked = subst (λ cs. HasAsked (take 1 cs) b) (sym first) (asked_more [] command a b kept.by new is.own);
       left_are = ap (drop 1) (sym first);
       older = is.older;
       seen = is.seen ∙ ap (λ ts. ts ++ is.older) (sym own);
@@ -46,8 +43,7 @@ made_first false coming left a b new kept (first, none, same) =
       seen = ap (λ ts. ts ++ b.seen) (sym own);
     }
 
--- If the feeder has seen all that the root has seen, and made no turn yet, then the root's turn comes before all of the
--- feeder's (`IsAfter`).
+-- A feeder without turns that has seen all that the root has comes after it (`IsAfter`).
 pub learned : (root feeder : PassValue) (older : List Turn) → root.seen ≡ root.own ++ older
     → Continues feeder.seen root.seen → feeder.own ≡ [] → IsAfter root feeder
 learned root feeder older seen later none =
@@ -60,18 +56,16 @@ learned root feeder older seen later none =
 
 -- ---- The feeder
 
--- The feeder's pass was `before` and is `now`. It made the commands of `all` that come before `left`, in order, and no
--- others. If it has made a turn, it had seen no turn of its own at `before`, and its own last turn is the newest that
--- it has seen.
-pub record IsFeeding (all left : List Command) (before now : PassValue) : Type 0 where
-  pub kept : IsKept before now
+-- The feeder made the commands of `all` before `left`, in order, and its last turn is the newest it has seen.
+pub record IsFeeding (all left : List Command) (old now : PassValue) : Type 0 where
+  pub kept : IsKept old now
   pub made : List Command
   pub parts : all ≡ made ++ left
   pub asked : HasAsked made now
-  pub none : 0 < length now.own → turns_by now.by before.seen ≡ []
+  pub none : 0 < length now.own → turns_by now.by old.seen ≡ []
   pub last : (now.own ≡ []) ⊎ IsAtOwn now
 
--- A feeder without turns has made none of the commands (`IsFeeding`).
+-- A feeder without turns has made none of the commands.
 pub feeding_first : (all : List Command) (p : PassValue) → p.own ≡ [] → IsFeeding all all p p
 feeding_first all p new =
     record {
@@ -83,77 +77,78 @@ feeding_first all p new =
       last = inl new;
     }
 
--- If the feeder's next command is its first turn, it had no turn in what it had seen before.
-none_at_first : (coming left : List Command) (before a b : PassValue) → IsKept before a → IsKept a b → a.own ≡ []
-    → Asks true coming left a b → turns_by b.by before.seen ≡ []
-none_at_first coming left before a b kept next new (what, first, answer, is) =
-    let turn = turn_of a.by what in
+none_at_first : (coming left : List Command) (old a b : PassValue) → IsKept old a → IsKept a b → a.own ≡ []
+    → Asks true coming left a b → turns_by b.by old.seen ≡ []
+none_at_first coming left old a b kept next new (command, first, answer, is) =
+    let turn = turn_of a.by command in
     let one : turns_by b.by (turn ∷ is.older) ≡ turn ∷ [] = ap (turns_by b.by) (sym is.seen) ∙ is.all_own ∙ is.own
     ∙ ap (λ ts. turn ∷ ts) new in
     let none = none_before_one b.by turn is.older (sym next.by) one in
-    none_before b.by is.older before.seen (continues_all is.older a.seen before.seen is.later kept.seen) none
+    none_before b.by is.older old.seen (continues_all is.older a.seen old.seen is.later kept.seen) none
 
-none_still : (before a b : PassValue) → b.by ≡ a.by → IsAtOwn a → (0 < length a.own → turns_by a.by before.seen ≡ [])
-    → turns_by b.by before.seen ≡ []
-none_still before a b by at none =
-    ap (λ n. turns_by n before.seen) by ∙ none (omega (arith, ap length at.own))
+none_still : (old a b : PassValue) → b.by ≡ a.by → IsAtOwn a → (0 < length a.own → turns_by a.by old.seen ≡ [])
+    → turns_by b.by old.seen ≡ []
+none_still old a b is_by is_at none =
+    ap (λ n. turns_by n old.seen) is_by ∙ none (omega (arith, ap length is_at.own))
 
-none_by : (coming left : List Command) (before a b : PassValue) → IsKept before a → IsKept a b
+none_by : (coming left : List Command) (old a b : PassValue) → IsKept old a → IsKept a b
     → (a.own ≡ []) ⊎ IsAtOwn a
-    → (0 < length a.own → turns_by a.by before.seen ≡ []) → Asks true coming left a b → turns_by b.by before.seen ≡ []
-none_by coming left before a b kept next (inl new) none asks = none_at_first coming left before a b kept next new asks
-none_by coming left before a b kept next (inr at) none asks = none_still before a b next.by at none
+    → (0 < length a.own → turns_by a.by old.seen ≡ []) → Asks true coming left a b → turns_by b.by old.seen ≡ []
+none_by coming left old a b kept next (inl new) none asks = none_at_first coming left old a b kept next new asks
+none_by coming left old a b kept next (inr is_at) none asks = none_still old a b next.by is_at none
 
--- If the feeder made its next command, it has made one command more (`IsFeeding`).
-pub feeding_more : (all coming left : List Command) (before a b : PassValue) → IsFeeding all coming before a
+-- After the feeder's next command, it has made one command more.
+pub feeding_more : (all coming left : List Command) (old a b : PassValue) → IsFeeding all coming old a
     → IsKept a b
-    → Asks true coming left a b → IsFeeding all left before b
-feeding_more all coming left before a b inv next (what, first, answer, is) =
+    → Asks true coming left a b → IsFeeding all left old b
+feeding_more all coming left old a b inv next (command, first, answer, is) =
     record {
-      kept = kept_all before a b inv.kept next;
-      made = inv.made ++ what ∷ [];
-      parts = inv.parts ∙ ap (λ cs. inv.made ++ cs) first ∙ sym (append_assoc inv.made (what ∷ []) left);
-      asked = asked_more inv.made what a b next.by inv.asked is.own;
-      none = λ _. none_by coming left before a b inv.kept next inv.last inv.none (what, first, answer, is);
-      last = inr (record { last = turn_of a.by what; older = is.older; before = a.own; seen = is.seen; own = is.own });
+      kept = kept_all old a b inv.kept next;
+      made = inv.made ++ command ∷ [];
+      parts = inv.parts ∙ ap (λ cs. inv.made ++ cs) first ∙ sym (append_assoc inv.made (command ∷ []) left);
+      asked = asked_more inv.made command a b next.by inv.asked is.own;
+      none = λ _. none_by coming left old a b inv.kept next inv.last inv.none (command, first, answer, is);
+      last = inr (record {
+        last = turn_of a.by command;
+        older = is.older;
+        before = a.own;
+        seen = is.seen;
+        own = is.own;
+      });
     }
 
--- If the feeder's next command failed, it has made its commands up to this one (`HasBegun`).
-pub fed_some : (all coming : List Command) (before a b : PassValue) → IsFeeding all coming before a → IsKept a b
+pub fed_some : (all coming : List Command) (old a b : PassValue) → IsFeeding all coming old a → IsKept a b
     → b.own ≡ a.own → HasBegun all b
-fed_some all coming before a b inv next own =
+fed_some all coming old a b inv next own =
     begun_by inv.made coming all b inv.parts (asked_same inv.made a b next.by own inv.asked)
 
--- If the feeder's next command failed, it still has no turn of its own in what it had seen before.
-pub none_after : (all coming : List Command) (before a b : PassValue) → IsFeeding all coming before a → IsKept a b
-    → b.own ≡ a.own → 0 < length b.own → turns_by b.by before.seen ≡ []
-none_after all coming before a b inv next own some =
-    ap (λ n. turns_by n before.seen) next.by ∙ inv.none (omega (arith, some, ap length own))
+pub none_after : (all coming : List Command) (old a b : PassValue) → IsFeeding all coming old a → IsKept a b
+    → b.own ≡ a.own → 0 < length b.own → turns_by b.by old.seen ≡ []
+none_after all coming old a b inv next own some =
+    ap (λ n. turns_by n old.seen) next.by ∙ inv.none (omega (arith, some, ap length own))
 
--- The error of the feeder's next command is one with which the feeder may stop (`IsFeedErr`).
-pub feed_err : (all coming : List Command) (before a b : PassValue) (e : TurnErr) → IsFeeding all coming before a
+pub feed_err : (all coming : List Command) (old a b : PassValue) (e : TurnErr) → IsFeeding all coming old a
     → IsAskErr a b e → IsFeedErr b e
-feed_err all coming before a b e inv (inl (is, same)) =
+feed_err all coming old a b e inv (inl (is, same)) =
     inl (is, subst (λ (p : PassValue). (p.own ≡ []) ⊎ IsAtOwn p) (sym same) inv.last)
-feed_err all coming before a b e inv (inr is) = inr is
+feed_err all coming old a b e inv (inr is) = inr is
 
 -- ---- The feeder's turns as a whole
 
--- If the feeder's next command failed with the error `e`, then its turns are as `Feeds` says for this error.
-pub feeds_some : (all coming : List Command) (before a b : PassValue) (e : TurnErr) → IsFeeding all coming before a
-    → IsKept a b → b.own ≡ a.own → IsAskErr a b e → Feeds {A = Unit {0}} all before b (Err e)
-feeds_some all coming before a b e inv next own is =
+-- A failed command of the feeder leaves its turns as `Feeds` says for this error.
+pub feeds_some : (all coming : List Command) (old a b : PassValue) (e : TurnErr) → IsFeeding all coming old a
+    → IsKept a b → b.own ≡ a.own → IsAskErr a b e → Feeds {A = Unit {0}} all old b (Err e)
+feeds_some all coming old a b e inv next own is =
     record {
-      kept = kept_all before a b inv.kept next;
+      kept = kept_all old a b inv.kept next;
       asked = tt;
-      begun = fed_some all coming before a b inv next own;
-      none = none_after all coming before a b inv next own;
-      err = feed_err all coming before a b e inv is;
+      begun = fed_some all coming old a b inv next own;
+      none = none_after all coming old a b inv next own;
+      err = feed_err all coming old a b e inv is;
     }
 
 -- ---- The root and the feeder together
 
--- If the root's turns came before all of the feeder's so far, they still do after the feeder made further turns.
 pub after_feeding : (root mid feeder : PassValue) → IsAfter root mid → IsKept mid feeder
     → (0 < length feeder.own → turns_by feeder.by mid.seen ≡ []) → IsAfter root feeder
 after_feeding root mid feeder is kept none =
@@ -168,8 +163,6 @@ after_feeding root mid feeder is kept none =
       ) (none some);
     }
 
--- If the root made the generator's first command, and the feeder ended without an error, then they made all commands
--- (`HasFed`).
 pub has_fed : {A : Type 0} (number records : ℕ) (gen left : List Command) (root mid feeder : PassValue)
     (result : Result A TurnErr) → gen ≡ generated number records → HasAsked (take 1 gen) root → left ≡ drop 1 gen
     → IsAfter root mid → Feeds left mid feeder result → OnOk result (HasFed number records root feeder)
@@ -181,8 +174,6 @@ has_fed number records gen left root mid feeder (Ok a) is asked rest after feeds
       after = after_feeding root mid feeder after feeds.kept feeds.none;
     }
 
--- If the root made the generator's first command, and the feeder stopped with an error, then each made its commands up
--- to some command (`HasFedSoFar`).
 pub has_fed_so_far : {A : Type 0} (number records : ℕ) (gen left : List Command) (root mid feeder : PassValue)
     (result : Result A TurnErr) → gen ≡ generated number records → HasAsked (take 1 gen) root → left ≡ drop 1 gen
     → IsAfter root mid → Feeds left mid feeder result → OnErr result (HasFedSoFar number records root feeder)
@@ -194,8 +185,6 @@ has_fed_so_far number records gen left root mid feeder (Err e) is asked rest aft
       after = λ some. after_feeding root mid feeder after feeds.kept feeds.none;
     }
 
--- If neither the root nor the feeder made a turn, each made its commands up to some command, namely none
--- (`HasFedSoFar`).
 pub none_fed : (number records : ℕ) (root feeder : PassValue) → root.own ≡ [] → feeder.own ≡ []
     → HasFedSoFar number records root feeder
 none_fed number records root feeder first second =
@@ -205,12 +194,11 @@ none_fed number records root feeder first second =
       after = λ some. absurd (omega (arith, some, ap length second));
     }
 
--- If the feeder stopped with an error, it is one with which the threads of a drill may stop (`IsCrowdErr`).
-pub crowd_err : {A : Type 0} (number records : ℕ) (gen left : List Command) (before root mid feeder : PassValue)
+pub crowd_err : {A : Type 0} (number records : ℕ) (gen left : List Command) (old root mid feeder : PassValue)
     (result : Result A TurnErr) → gen ≡ generated number records → HasAsked (take 1 gen) root
-    → Feeds left mid feeder result → IfErr result (IsCrowdErr before root feeder)
-crowd_err number records gen left before root mid feeder (Ok a) is asked feeds = tt
-crowd_err number records gen left before root mid feeder (Err e) is asked feeds =
+    → Feeds left mid feeder result → IfErr result (IsCrowdErr old root feeder)
+crowd_err number records gen left old root mid feeder (Ok a) is asked feeds = tt
+crowd_err number records gen left old root mid feeder (Err e) is asked feeds =
     let first : HasAsked (take 1 (generated number records)) root = subst (λ cs. HasAsked (take 1 cs) root) is asked in
     let one : length root.own ≡ 1 = ap length first in
     inr (omega arith, feeds.err)

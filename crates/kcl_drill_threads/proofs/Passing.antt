@@ -14,7 +14,6 @@ use Rattle.kcl_drill_threads.specs.Asking.{HasAsked, HasBegun, IsKept, turn_of, 
 
 -- ---- Turns of an actor in a history and in a longer one
 
--- If an actor has no turn in the history `h`, it has none in what a pass has seen of `h`.
 pub none_before : (n : ℕ) (h seen : List Turn) → Continues h seen → turns_by n h ≡ [] → turns_by n seen ≡ []
 none_before n h seen c none =
     let cut : turns_by n h ≡ turns_by n c.0 ++ turns_by n seen =
@@ -22,22 +21,19 @@ none_before n h seen c none =
     let total : length (turns_by n c.0 ++ turns_by n seen) ≡ 0 = ap length (sym cut ∙ none) in
     no_length (turns_by n seen) (omega (arith, total, length-append (turns_by n c.0) (turns_by n seen)))
 
--- If the newest turn of a history is the only one of its actor, the actor has none in the history before it.
 pub none_before_one : (n : ℕ) (turn : Turn) (older : List Turn) → turn.by ≡ n → turns_by n (turn ∷ older) ≡ turn ∷ []
     → turns_by n older ≡ []
-none_before_one n turn older by one =
+none_before_one n turn older is_own one =
     let two : turn ∷ turns_by n older ≡ turn ∷ [] =
-    sym (ap (λ b. cond b (turn ∷ turns_by n older) (turns_by n older)) (is_equal turn.by n by)) ∙ one in
+    sym (ap (λ b. cond b (turn ∷ turns_by n older) (turns_by n older)) (is_equal turn.by n is_own)) ∙ one in
     let count = ap length two in
     no_length (turns_by n older) (omega arith)
 
 -- ---- A pass later
 
--- A pass that is unchanged is this pass at a later time (`IsKept`).
 pub kept_same : (p : PassValue) → IsKept p p
 kept_same p = record { hall = refl; by = refl; joined = refl; seen = ([], refl) }
 
--- If `b` is the pass `a` at a later time, and `c` is `b` at a later time, then `c` is `a` at a later time.
 pub kept_all : (a b c : PassValue) → IsKept a b → IsKept b c → IsKept a c
 kept_all a b c p q =
     record {
@@ -49,21 +45,18 @@ kept_all a b c p q =
 
 -- ---- The commands that a pass has made
 
--- If a pass made the commands `made`, and then `what` as its next turn, it has made these commands and `what`.
-pub asked_more : (made : List Command) (what : Command) (a b : PassValue) → b.by ≡ a.by → HasAsked made a
-    → b.own ≡ turn_of a.by what ∷ a.own → HasAsked (made ++ what ∷ []) b
-asked_more made what a b by has own =
+pub asked_more : (made : List Command) (command : Command) (a b : PassValue) → b.by ≡ a.by → HasAsked made a
+    → b.own ≡ turn_of a.by command ∷ a.own → HasAsked (made ++ command ∷ []) b
+asked_more made command a b is_own has own =
     own
-    ∙ ap (λ ts. turn_of a.by what ∷ ts) has
-    ∙ ap (map (turn_of a.by)) (sym (reverse-append made (what ∷ [])))
-    ∙ ap (λ n. turns_of n (made ++ what ∷ [])) (sym by)
+    ∙ ap (λ ts. turn_of a.by command ∷ ts) has
+    ∙ ap (map (turn_of a.by)) (sym (reverse-append made (command ∷ [])))
+    ∙ ap (λ n. turns_of n (made ++ command ∷ [])) (sym is_own)
 
--- If a pass made the commands `made`, it has still made them if its number and its own turns stay the same.
 pub asked_same : (made : List Command) (a b : PassValue) → b.by ≡ a.by → b.own ≡ a.own → HasAsked made a
     → HasAsked made b
-asked_same made a b by own has = own ∙ has ∙ ap (λ n. turns_of n made) (sym by)
+asked_same made a b is_own own has = own ∙ has ∙ ap (λ n. turns_of n made) (sym is_own)
 
--- If a pass made the commands `made`, which are the first of `all`, then it has made those of `all` up to some command.
 pub begun_by : (made left all : List Command) (p : PassValue) → all ≡ made ++ left → HasAsked made p → HasBegun all p
 begun_by made left all p e has =
     (length made, has ∙ ap (turns_of p.by) (sym (ap (take (length made)) e ∙ take-append_seam made left)))

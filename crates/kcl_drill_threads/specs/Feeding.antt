@@ -1,5 +1,4 @@
--- What the root and the feeder of a drill have done with their passes. The root makes the stream, and the feeder gives
--- the other commands of the generator. Lists of turns have the newest first.
+-- What a drill's root, which makes the stream, and its feeder, which gives all other commands, have done.
 use Rattle.std.specs.Prelude.{◌≡◌, ◌⊎◌, ℕ, ◌<◌, List, [], ◌∷◌, ◌++◌, length, take, drop, Result, IfErr, OnErr, OnOk}
 use Rattle.kds_defs.specs.declared.command.Command.{Command}
 use Rattle.kds_defs.specs.declared.command.Turn.{Turn}
@@ -10,7 +9,7 @@ use Rattle.kds_turn.specs.Passes.{PassValue}
 use Rattle.kcl_drill.specs.Generated.{generated}
 use Rattle.kcl_drill_threads.specs.Asking.{HasAsked, HasBegun, IsAskErr, IsKept, IsTurnErr}
 
--- Among the turns that the feeder has seen, the turns of the root come before all of the feeder's own.
+-- Among the turns that the feeder has seen, the root's turns come before all of its own.
 pub record IsAfter (root feeder : PassValue) : Type 0 where
   pub newer : List Turn
   pub older : List Turn
@@ -23,8 +22,7 @@ pub record HasFed (number records : ℕ) (root feeder : PassValue) : Type 0 wher
   pub of_feeder : HasAsked (drop 1 (generated number records)) feeder
   pub after : IsAfter root feeder
 
--- The root and the feeder each made their commands up to some command, perhaps none. If the feeder made a command, all
--- its commands came after the root's (`IsAfter`).
+-- The root and then the feeder each made a prefix, perhaps empty, of their commands.
 pub record HasFedSoFar (number records : ℕ) (root feeder : PassValue) : Type 0 where
   pub of_root : HasBegun (take 1 (generated number records)) root
   pub of_feeder : HasBegun (drop 1 (generated number records)) feeder
@@ -38,24 +36,20 @@ pub record IsAtOwn (p : PassValue) : Type 0 where
   pub seen : p.seen ≡ last ∷ older
   pub own : p.own ≡ last ∷ before
 
--- The reason for the error `e` with which the feeder stopped early. Either the generator ran out of memory, before the
--- feeder's first turn or right after one of its turns, or a turn failed (`IsTurnErr`).
-abbrev pub IsFeedErr : PassValue → TurnErr → Type 0
+-- The feeder ran out of memory, before its first turn or right after one, or a turn failed (`IsTurnErr`).
+abbrev pub IsFeedErr : (p : PassValue) (e : TurnErr) → Type 0
 IsFeedErr p e = ((e ≡ failed.Memory) × ((p.own ≡ []) ⊎ IsAtOwn p)) ⊎ IsTurnErr p e
 
--- The feeder's pass `before` became `after`. If the result is Ok, the feeder made all of the commands `coming`. If it
--- is an error, the feeder made these commands up to some command, and `err` is the reason. If the feeder made a
--- command, it had seen no turn of its own before.
-pub record Feeds {A : Type 0} (coming : List Command) (before after : PassValue) (result : Result A TurnErr) :
+-- With Ok, the feeder made all of the commands `coming`; with an error, it made them up to some command.
+pub record Feeds {A : Type 0} (coming : List Command) (old new : PassValue) (result : Result A TurnErr) :
     Type 0 where
-  pub kept : IsKept before after
-  pub asked : OnOk result (HasAsked coming after)
-  pub begun : OnErr result (HasBegun coming after)
-  pub none : 0 < length after.own → turns_by after.by before.seen ≡ []
-  pub err : IfErr result (IsFeedErr after)
+  pub kept : IsKept old new
+  pub asked : OnOk result (HasAsked coming new)
+  pub begun : OnErr result (HasBegun coming new)
+  pub none : 0 < length new.own → turns_by new.by old.seen ≡ []
+  pub err : IfErr result (IsFeedErr new)
 
--- The reason for the error `e` with which the threads of a drill stopped early. Either the root's command failed, and
--- neither the root nor the feeder made a turn, or the root made its turn and the feeder failed.
-abbrev pub IsCrowdErr : PassValue → PassValue → PassValue → TurnErr → Type 0
-IsCrowdErr before root feeder e = ((feeder.own ≡ []) × (root.own ≡ []) × IsAskErr before root e)
+-- The root's command failed and no turn was made, or the root made its turn and the feeder failed.
+abbrev pub IsCrowdErr : (old root feeder : PassValue) (e : TurnErr) → Type 0
+IsCrowdErr old root feeder e = ((feeder.own ≡ []) × (root.own ≡ []) × IsAskErr old root e)
     ⊎ ((0 < length root.own) × IsFeedErr feeder e)

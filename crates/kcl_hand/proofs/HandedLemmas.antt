@@ -1,14 +1,14 @@
--- If a hand-off has freed its row, everything that was given in the hand-off's tenure is at or below the row's
--- checkpoint, and isn't read again in a later tenure.
+-- After a freeing, all that was given is at or below the checkpoint and isn't read again.
 use Rattle.std.proofs.Common.{◌≡◌, ℕ, ◌+◌, ◌≤◌, true, List, [], ◌∷◌, ◌++◌, take, drop, Option, Some, None, refl, sym}
 use Rattle.std.proofs.Common.{ap, subst, ◌∙◌, arith, inl, inr}
 use Rattle.std.proofs.Common.{append_assoc}
 use Rattle.std.specs.Prelude.{◌==◌, map}
 use Rattle.std.specs.List.{AllByRecursion}
 use Rattle.std.proofs.lemmas.List.{map-append, take-append-drop, take-map}
+use Rattle.std.proofs.lemmas.Option.{same_Some}
 use Rattle.kds_base.specs.declared.lease_key.Checkpoint.{Checkpoint}
 use Rattle.kds_base.specs.declared.lease_key.Checkpoint.TheVariants.{TrimHorizon, At, ShardEnd}
-use Rattle.kds_base.proofs.Facts.{is_equal, same_some}
+use Rattle.kds_base.proofs.Facts.{is_equal}
 use Rattle.kds_defs.specs.declared.command.Turn.{Turn}
 use Rattle.kds_defs.specs.declared.reply.Row.{Row}
 use Rattle.kds_defs.specs.declared.reply.Stored.{Stored}
@@ -41,7 +41,7 @@ use Rattle.kcl_hand.proofs.Serving.{all_served, joint_ok}
 
 -- ---- The greatest of rising numbers is the last one
 
--- The sequence numbers of the records `rs`.
+-- The sequence numbers of the data records.
 abbrev numbers : List Stored → List ℕ
 numbers rs = map (λ r. r.seq) rs
 
@@ -52,7 +52,7 @@ rise_left p (n ∷ ns) ms h = (h.0, rise_left (n + 1) ns ms h.1)
 up_to_last : (n p q : ℕ) (rs : List Stored) → last_of rs ≡ Some q → RiseFrom p (numbers rs) → IsAmong n (numbers rs)
     → n ≤ q
 up_to_last n p q [] is rise among = absurd among
-up_to_last n p q (r ∷ []) is rise (inl e) = let s = same_some r.seq q is in omega arith
+up_to_last n p q (r ∷ []) is rise (inl e) = let s = same_Some r.seq q is in omega arith
 up_to_last n p q (r ∷ []) is rise (inr none) = absurd none
 up_to_last n p q (r ∷ s ∷ rs) is rise (inl e) =
     omega (arith, e, rise.1.0, up_to_last s.seq (r.seq + 1) q (s ∷ rs) is rise.1 (inl refl))
@@ -91,83 +91,78 @@ less_up n q TrimHorizon le up = up
 less_up n q (At k) le up = omega arith
 less_up n q ShardEnd le up = tt
 
-by_last : (by : ℕ) (h : List Turn) → IsHistory h
+by_last : (actor : ℕ) (h : List Turn) → IsHistory h
     → (x : HandOff) (T : TenureState) (r : Row) (rs : List Stored) (n : ℕ) (last : Option ℕ) → last_of rs ≡ last
     → x.held.tenure ≡ x.made.tenure → tenure (journal h) x.made.tenure ≡ Some T → row (journal h) T.key ≡ Some r
-    → IsMarkedAt x (deals_of by h) last → RiseFrom 0 (numbers rs) → IsAmong n (numbers rs) → IsUpTo n r.checkpoint
-by_last by h lawful x T r rs n None is lease begun there marked rise among = absurd (none_last n rs is among)
-by_last by h lawful x T r rs n (Some q) is lease begun there marked rise among =
-    let m : HasMarked (journal h) x.held.tenure q = marked_in by h lawful x.held.tenure x.held.counter q marked in
-    let same : m.state ≡ T = same_some m.state T (sym m.begun ∙ ap (tenure (journal h)) lease ∙ begun) in
+    → IsMarkedAt x (deals_of actor h) last → RiseFrom 0 (numbers rs) → IsAmong n (numbers rs) → IsUpTo n r.checkpoint
+by_last actor h lawful x T r rs n None is lease begun there marked rise among = absurd (none_last n rs is among)
+by_last actor h lawful x T r rs n (Some q) is lease begun there marked rise among =
+    let m : HasMarked (journal h) x.held.tenure q = marked_in actor h lawful x.held.tenure x.held.counter q marked in
+    let same : m.state ≡ T = same_Some m.state T (sym m.begun ∙ ap (tenure (journal h)) lease ∙ begun) in
     less_up n q r.checkpoint (up_to_last n 0 q rs is rise among)
     (m.up r (ap (λ (S : TenureState). row (journal h) S.key) same ∙ there))
 
-one_marked : (by : ℕ) (h : List Turn) → IsHistory h → (x : HandOff) → InStep (deals_of by h) (known_in x)
-    → x.held.tenure ≡ x.made.tenure → IsMarkedAt x (deals_of by h) (last_given x.made (state_of x).past)
-    → (T : TenureState) (r : Row) → tenure (journal h) x.made.tenure ≡ Some T → (T.by == by) ≡ true
+one_marked : (actor : ℕ) (h : List Turn) → IsHistory h → (x : HandOff) → InStep (deals_of actor h) (known_in x)
+    → x.held.tenure ≡ x.made.tenure → IsMarkedAt x (deals_of actor h) (last_given x.made (state_of x).past)
+    → (T : TenureState) (r : Row) → tenure (journal h) x.made.tenure ≡ Some T → (T.by == actor) ≡ true
     → row (journal h) T.key ≡ Some r → IsMarked T r.checkpoint
-one_marked by h lawful x step lease marked T r begun own there = λ n given.
+one_marked actor h lawful x step lease marked T r begun own there = λ n is_given.
     let t = x.made.tenure in
     let past = (state_of x).past in
     let fs = take (gives_after x.made past) (reads_after x.made past) in
-    let o : AreOfTenure by h t T = of_tenure by h t T begun own in
+    let o : AreOfTenure actor h t T = of_tenure actor h t T begun own in
     let reads : given_reads T ≡ map read_done fs =
     (λ i. take (sym o.gives i) (sym o.reads i))
-    ∙ take-map read_done (gives_in t (deals_of by h)) (reads_in t (deals_of by h))
+    ∙ take-map read_done (gives_in t (deals_of actor h)) (reads_in t (deals_of actor h))
     ∙ (λ i. map read_done (take (step.gives i) (step.reads i))) in
     let done : all_numbers (given_reads T) ≡ numbers (records_in fs) = ap all_numbers reads ∙ numbers_done fs in
     let j = journals h lawful in
     let rise = rise_given T ((all_covered (journal h) j.legal (clock h) j.order).reads_rise t T begun) in
-    by_last by h lawful x T r (records_in fs) n (last_given x.made past) (sym (last_is (records_in fs)))
+    by_last actor h lawful x T r (records_in fs) n (last_given x.made past) (sym (last_is (records_in fs)))
     lease begun there marked
-    (subst (RiseFrom 0) done rise) (subst (IsAmong n) done (read_among n (given_reads T) given))
+    (subst (RiseFrom 0) done rise) (subst (IsAmong n) done (read_among n (given_reads T) is_given))
 
--- If a consumer belongs to a tenure of the actor `by` (`IsOfTenure`), the state of this tenure in the journal names the
--- actor `by`.
-own_tenure : (by : ℕ) (h : List Turn) (made : Tenancy) (T : TenureState) → tenure (journal h) made.tenure ≡ Some T
-    → IsOfTenure by h made → (T.by == by) ≡ true
-own_tenure by h made T begun of =
-    is_equal T.by by (ap (λ (S : TenureState). S.by) (same_some T of.state (sym begun ∙ of.begun)) ∙ of.own)
+own_tenure : (actor : ℕ) (h : List Turn) (made : Tenancy) (T : TenureState) → tenure (journal h) made.tenure ≡ Some T
+    → IsOfTenure actor h made → (T.by == actor) ≡ true
+own_tenure actor h made T begun is_of =
+    is_equal T.by actor (ap (λ (S : TenureState). S.by) (same_Some T is_of.state (sym begun ∙ is_of.begun)) ∙ is_of.own)
 
-one_handed : (by : ℕ) (h : List Turn) → IsHistory h → (x : HandOff) → IsHandOk (deals_of by h) x
-    → InStep (deals_of by h) (known_in x) → IsHandServed by h x → IsHandedOffIfFreed by h x
-one_handed by h lawful x ok step served = λ counter ended. record {
+one_handed : (actor : ℕ) (h : List Turn) → IsHistory h → (x : HandOff) → IsHandOk (deals_of actor h) x
+    → InStep (deals_of actor h) (known_in x) → IsHandServed actor h x → IsHandedOffIfFreed actor h x
+one_handed actor h lawful x ok step served = λ counter ended. record {
   whole = served.whole (subst (λ s. IsGoing s (stage_of_known (known_in x))) ended ok.going);
   marked = λ T r begun there.
-      one_marked by h lawful x step ok.lease
-      (subst (MarkOf x (deals_of by h) (last_given x.made (state_of x).past)) ended ok.mark)
-      T r begun (own_tenure by h x.made T begun served.calls.0) there;
+      one_marked actor h lawful x step ok.lease
+      (subst (MarkOf x (deals_of actor h) (last_given x.made (state_of x).past)) ended ok.mark)
+      T r begun (own_tenure actor h x.made T begun served.calls.0) there;
 }
 
-each_handed : (by : ℕ) (h : List Turn) → IsHistory h → (xs : List HandOff)
-    → AllByRecursion (IsHandOk (deals_of by h)) xs → AllByRecursion (InStep (deals_of by h)) (map known_in xs)
-    → AllByRecursion (IsHandServed by h) xs → AllByRecursion (IsHandedOffIfFreed by h) xs
-each_handed by h lawful [] ok steps served = tt
-each_handed by h lawful (x ∷ xs) ok steps served =
-    (one_handed by h lawful x ok.0 steps.0 served.0, each_handed by h lawful xs ok.1 steps.1 served.1)
+each_handed : (actor : ℕ) (h : List Turn) → IsHistory h → (xs : List HandOff)
+    → AllByRecursion (IsHandOk (deals_of actor h)) xs → AllByRecursion (InStep (deals_of actor h)) (map known_in xs)
+    → AllByRecursion (IsHandServed actor h) xs → AllByRecursion (IsHandedOffIfFreed actor h) xs
+each_handed actor h lawful [] ok steps served = tt
+each_handed actor h lawful (x ∷ xs) ok steps served =
+    (one_handed actor h lawful x ok.0 steps.0 served.0, each_handed actor h lawful xs ok.1 steps.1 served.1)
 
--- Assume that the turns of the actor `by` in the history `h` are the commands of the joint record. For each hand-off
--- that has freed its row, each batch that was handed over is given, and what was given is at or below the row's
--- checkpoint (`IsHandedOffIfFreed`).
-pub all_handed : (by : ℕ) (h : List Turn) (made : WorkerMade) (past : JointPast) → IsHistory h → AreOrderly made past
-    → AreToldIn by h made past → AllByRecursion (IsHandedOffIfFreed by h) (hands_after made past)
-all_handed by h made past lawful orderly told =
-    let ok = joint_ok made past orderly (subst AreNewTenures told (new_tenures by h))
-    (subst AreGivesTaken told (gives_taken by h)) in
+pub all_handed : (actor : ℕ) (h : List Turn) (made : WorkerMade) (past : JointPast) → IsHistory h → AreOrderly made past
+    → AreToldIn actor h made past → AllByRecursion (IsHandedOffIfFreed actor h) (hands_after made past)
+all_handed actor h made past lawful orderly is_told =
+    let ok = joint_ok made past orderly (subst AreNewTenures is_told (new_tenures actor h))
+    (subst AreGivesTaken is_told (gives_taken actor h)) in
     let steps = all_left (InStep (joint_deals made past)) (map known_in (hands_after made past))
     (worker_in made past).retired ok.fine.good.over in
-    each_handed by h lawful (hands_after made past)
-    (subst (λ deals. AllByRecursion (IsHandOk deals) (hands_after made past)) (sym told) (all_ok made past orderly))
-    (subst (λ deals. AllByRecursion (InStep deals) (map known_in (hands_after made past))) (sym told) steps)
-    (all_served by h made past orderly told).handed
+    each_handed actor h lawful (hands_after made past)
+    (subst (λ deals. AllByRecursion (IsHandOk deals) (hands_after made past)) (sym is_told) (all_ok made past orderly))
+    (subst (λ deals. AllByRecursion (InStep deals) (map known_in (hands_after made past))) (sym is_told) steps)
+    (all_served actor h made past orderly is_told).handed
 
 -- ---- A later tenure
 
-one_again : (by : ℕ) (h before : List Turn) → IsHistory h → (x : HandOff) → IsHandedOffIfFreed by before x
-    → IsNeverReadAgain by h before x
-one_again by h before lawful x handed = λ counter ended u T U begun later same.
+one_again : (actor : ℕ) (h old : List Turn) → IsHistory h → (x : HandOff) → IsHandedOffIfFreed actor old x
+    → IsNeverReadAgain actor h old x
+one_again actor h old lawful x handed = λ counter ended u T U begun later same.
     let off = handed counter ended in
-    let here : row (journal before) T.key ≡ Some later.taken = ap (row (journal before)) same ∙ later.there in
+    let here : row (journal old) T.key ≡ Some later.taken = ap (row (journal old)) same ∙ later.there in
     let marked = off.marked T later.taken begun here in
     let P : Checkpoint → Type 0 = λ c. IsMarked T c in
     read_once h lawful x.made.tenure u T U (record {
@@ -179,17 +174,14 @@ one_again by h before lawful x handed = λ counter ended u T U begun later same.
       marked = subst P (sym (ap (λ log. checkpoint_in (row log T.key)) later.lines ∙ ap checkpoint_in here)) marked;
     })
 
-each_again : (by : ℕ) (h before : List Turn) → IsHistory h → (xs : List HandOff)
-    → AllByRecursion (IsHandedOffIfFreed by before) xs → AllByRecursion (IsNeverReadAgain by h before) xs
-each_again by h before lawful [] all = tt
-each_again by h before lawful (x ∷ xs) all =
-    (one_again by h before lawful x all.0, each_again by h before lawful xs all.1)
+each_again : (actor : ℕ) (h old : List Turn) → IsHistory h → (xs : List HandOff)
+    → AllByRecursion (IsHandedOffIfFreed actor old) xs → AllByRecursion (IsNeverReadAgain actor h old) xs
+each_again actor h old lawful [] all = tt
+each_again actor h old lawful (x ∷ xs) all =
+    (one_again actor h old lawful x all.0, each_again actor h old lawful xs all.1)
 
--- Assume that the turns of the actor `by` in `before` are the commands of the joint record. For each hand-off that has
--- freed its row, what was given in the hand-off's tenure isn't read in a tenure of the same key that begins right after
--- `before`.
-pub all_again : (by : ℕ) (h before : List Turn) (made : WorkerMade) (past : JointPast) → IsHistory h → IsHistory before
-    → AreOrderly made past → AreToldIn by before made past
-    → AllByRecursion (IsNeverReadAgain by h before) (hands_after made past)
-all_again by h before made past lawful first orderly told =
-    each_again by h before lawful (hands_after made past) (all_handed by before made past first orderly told)
+pub all_again : (actor : ℕ) (h old : List Turn) (made : WorkerMade) (past : JointPast) → IsHistory h → IsHistory old
+    → AreOrderly made past → AreToldIn actor old made past
+    → AllByRecursion (IsNeverReadAgain actor h old) (hands_after made past)
+all_again actor h old made past lawful first orderly is_told =
+    each_again actor h old lawful (hands_after made past) (all_handed actor old made past first orderly is_told)

@@ -1,4 +1,4 @@
--- A hand-off that is run has ended after three commands at the latest.
+-- A hand-off that is run ends after at most three commands.
 use Rattle.std.proofs.Common.{◌≡◌, ℕ, zero, suc, ◌≤◌, List, [], ◌∷◌, ◌++◌, length, Option, Some, None, refl, sym, ap}
 use Rattle.std.proofs.Common.{subst, ◌∙◌, arith}
 use Rattle.std.specs.Prelude.{IsSome, Result}
@@ -29,68 +29,59 @@ use Rattle.kcl_hand.proofs.Handings.{freed_few, freed_goes, goes, lost_leaves, m
 
 -- ---- The hand-off that began last
 
--- If the hand-off `x` is added at the end of `hands`, the next command of the last hand-off is that of `x`.
 pub command_last : (hands : List HandOff) (x : HandOff)
     → command_in (length hands) (hands ++ (x ∷ [])) ≡ hand_command x.held x.made (state_of x)
 command_last [] x = refl
 command_last (y ∷ ys) x = command_last ys x
 
--- If the hand-off `x` is added at the end of `hands`, an event of the last hand-off happens to `x` and to no other
--- hand-off.
 pub event_last : (hands : List HandOff) (x : HandOff) (event : HandEvent)
     → with_hand_event (length hands) event (hands ++ (x ∷ [])) ≡ hands ++ (record x { since = event ∷ x.since } ∷ [])
 event_last [] x event = refl
 event_last (y ∷ ys) x event = ap (λ xs. y ∷ xs) (event_last ys x event)
 
--- After a release and the events `since` of its hand-off, this hand-off is the last of all, and the others are
--- unchanged.
 pub hands_with : (key : ShardRef) (made : WorkerMade) (past : JointPast) (r : Release)
-    → released key (worker_in made past) ≡ Some r → (since : HandPast)
-    → hands_after made (with_hand key since made past) ≡ hands_after made past ++ (hand_of r since ∷ [])
+    → released key (worker_in made past) ≡ Some r → (events : HandPast)
+    → hands_after made (with_hand key events made past) ≡ hands_after made past ++ (hand_of r events ∷ [])
 hands_with key made past r which [] = ap (λ o. hands_after made past ++ begun o) which
-hands_with key made past r which (event ∷ since) =
-    ap (with_hand_event (length (hands_after made past)) event) (hands_with key made past r which since)
-    ∙ event_last (hands_after made past) (hand_of r since) event
+hands_with key made past r which (event ∷ events) =
+    ap (with_hand_event (length (hands_after made past)) event) (hands_with key made past r which events)
+    ∙ event_last (hands_after made past) (hand_of r events) event
 
--- When the newest hand-off takes the answer to its next command, this command and the answer are added to the joint
--- record's commands as the newest.
 pub deals_with_hand : (key : ShardRef) (made : WorkerMade) (past : JointPast) (r : Release)
-    → released key (worker_in made past) ≡ Some r → (since : HandPast) (what : Command) (answer : Result Reply Refusal)
-    → hand_command r.held r.known.made (state_of (hand_of r since)) ≡ Some what
-    → joint_deals made (with_hand key (Hand_answered answer ∷ since) made past)
-    ≡ record { what = what; answer = answer } ∷ joint_deals made (with_hand key since made past)
-deals_with_hand key made past r which since what answer is =
-    ap (λ o. answered_deals o answer (joint_deals made (with_hand key since made past)))
-    (ap (command_in (length (hands_after made past))) (hands_with key made past r which since)
-    ∙ command_last (hands_after made past) (hand_of r since) ∙ is)
+    → released key (worker_in made past) ≡ Some r
+    → (events : HandPast) (command : Command) (answer : Result Reply Refusal)
+    → hand_command r.held r.known.made (state_of (hand_of r events)) ≡ Some command
+    → joint_deals made (with_hand key (Hand_answered answer ∷ events) made past)
+    ≡ record { what = command; answer = answer } ∷ joint_deals made (with_hand key events made past)
+deals_with_hand key made past r which events command answer is =
+    ap (λ o. answered_deals o answer (joint_deals made (with_hand key events made past)))
+    (ap (command_in (length (hands_after made past))) (hands_with key made past r which events)
+    ∙ command_last (hands_after made past) (hand_of r events) ∙ is)
 
 -- ---- The hand-off ends
 
--- A call or command of the consumer comes next in the state `s` of a hand-off exactly as long as the consumer isn't
--- over. The consumer, whose stage is `stage`, gives its last batch, leaves or is over. At most `n` turns are left.
+-- The consumer comes first, in a stage after a loss, and at most `n` turns are left.
 pub record IsOnWay (s : HandState) (stage : Stage) (n : ℕ) : Type 0 where
   pub going : IsGoing s.stand stage
   pub leaving : IsLeaving stage
   pub few_left : turns_left s.stand stage ≤ n
 
--- The hand-off `x` is on its way to its end, with at most `n` turns left (`IsOnWay`).
+-- The hand-off has at most `n` turns left before its end.
 abbrev OnWay : HandOff → ℕ → Type 0
 OnWay x n = IsOnWay (state_of x) (stage_after x.made (state_of x).past) n
 
 Q : HandOff → ℕ → HandState → Type 0
 Q x n s = IsOnWay s (stage_after x.made s.past) n × (due_call (stage_after x.made s.past) ≡ None)
 
--- If a processor call is due, the hand-off is still on its way to its end after this call (`IsOnWay`), with at most `n`
--- turns left as before. No further call is due.
 called_here : (x : HandOff) (n : ℕ) (s : HandState) → IsOnWay s (stage_after x.made s.past) n
     → IsSome (due_call (stage_after x.made s.past)) → s.stand ≡ stand.Consumer
     → Q x n (called_at x.held x.made ask.None s stand.Consumer)
 unfolding Q
-called_here x n s w due at =
+called_here x n s w due is_at =
     let past = Called ask.None ∷ s.past in
     let f = called_few x.made ask.None x.held (last_given x.made past) (stage_after x.made s.past) w.leaving due in
     let old : turns_left stand.Consumer (stage_after x.made s.past) ≤ n =
-    subst (λ k. turns_left k (stage_after x.made s.past) ≤ n) at w.few_left in (
+    subst (λ k. turns_left k (stage_after x.made s.past) ≤ n) is_at w.few_left in (
       record {
         going = goes x.held (last_given x.made past) (stage_after x.made past) _ refl;
         leaving = called_leaves x.made ask.None (stage_after x.made s.past) w.leaving;
@@ -105,11 +96,10 @@ unfolding Q
 called_way x n w None e = (w, e)
 called_way x n w (Some due) e =
     let is_due : IsSome (due_call (stage_after x.made (state_of x).past)) = subst IsSome (sym e) refl in
-    let at = at_its_consumer (state_of x).stand (stage_after x.made (state_of x).past) w.going is_due in
-    subst (λ k. Q x n (called_at x.held x.made ask.None (state_of x) k)) (sym at)
-    (called_here x n (state_of x) w is_due at)
+    let is_at = at_its_consumer (state_of x).stand (stage_after x.made (state_of x).past) w.going is_due in
+    subst (λ k. Q x n (called_at x.held x.made ask.None (state_of x) k)) (sym is_at)
+    (called_here x n (state_of x) w is_due is_at)
 
--- If no processor call is due and no command comes next, the hand-off has ended.
 stops : (x : HandOff) (stage : Stage) (s : Stand) → IsGoing s stage → IsLeaving stage → due_call stage ≡ None
     → command_at x.held x.made stage s ≡ None → IsSome (left_at s)
 stops x (Giving reach waiting asked lost) stand.Consumer going l due none = absurd cc
@@ -120,82 +110,79 @@ stops x stage (stand.Mark q) going l due none = absurd cc
 stops x stage (stand.Free counter) going l due none = absurd cc
 stops x stage (stand.Ended left) going l due none = refl
 
--- The hand-off was on its way to its end with at most `n + 1` turns left. After the answer to its next command, it is
--- still on its way, with at most `n` turns left.
-answered_way : (x : HandOff) (n : ℕ) (s : HandState) (st : Stand) (what : Command) (a : Result Reply Refusal)
+answered_way : (x : HandOff) (n : ℕ) (s : HandState) (st : Stand) (command : Command) (a : Result Reply Refusal)
     → s.stand ≡ st → IsOnWay s (stage_after x.made s.past) (suc n) → due_call (stage_after x.made s.past) ≡ None
-    → command_at x.held x.made (stage_after x.made s.past) st ≡ Some what
+    → command_at x.held x.made (stage_after x.made s.past) st ≡ Some command
     → IsOnWay (answered_at x.held x.made a s st) (stage_after x.made (answered_at x.held x.made a s st).past) n
-answered_way x n s stand.Consumer what a at w due is =
+answered_way x n s stand.Consumer command a is_at w due is =
     let past = Answered a ∷ s.past in
     let stage = stage_after x.made s.past in
-    let going : over_at stage ≡ None = subst (λ k. IsGoing k stage) at w.going in
+    let going : over_at stage ≡ None = subst (λ k. IsGoing k stage) is_at w.going in
     let f = answered_few x.made a x.held (last_given x.made past) stage w.leaving going due in
-    let old : turns_left stand.Consumer stage ≤ suc n = subst (λ k. turns_left k stage ≤ suc n) at w.few_left in
+    let old : turns_left stand.Consumer stage ≤ suc n = subst (λ k. turns_left k stage ≤ suc n) is_at w.few_left in
     record {
       going = goes x.held (last_given x.made past) (stage_after x.made past) _ refl;
       leaving = answered_leaves x.made a stage w.leaving;
       few_left = omega arith;
     }
-answered_way x n s (stand.Mark q) what a at w due is =
+answered_way x n s (stand.Mark q) command a is_at w due is =
     let stage = stage_after x.made s.past in
-    let old : 2 ≤ suc n = subst (λ k. turns_left k stage ≤ suc n) at w.few_left in
+    let old : 2 ≤ suc n = subst (λ k. turns_left k stage ≤ suc n) is_at w.few_left in
     record {
-      going = marked_goes x.held a stage _ refl (subst (λ k. IsGoing k stage) at w.going);
+      going = marked_goes x.held a stage _ refl (subst (λ k. IsGoing k stage) is_at w.going);
       leaving = w.leaving;
       few_left = omega (arith, marked_few x.held a stage, old);
     }
-answered_way x n s (stand.Free counter) what a at w due is =
+answered_way x n s (stand.Free counter) command a is_at w due is =
     let stage = stage_after x.made s.past in
-    let old : 1 ≤ suc n = subst (λ k. turns_left k stage ≤ suc n) at w.few_left in
+    let old : 1 ≤ suc n = subst (λ k. turns_left k stage ≤ suc n) is_at w.few_left in
     record {
-      going = freed_goes counter a stage _ refl (subst (λ k. IsGoing k stage) at w.going);
+      going = freed_goes counter a stage _ refl (subst (λ k. IsGoing k stage) is_at w.going);
       leaving = w.leaving;
       few_left = omega (arith, freed_few counter a stage, old);
     }
-answered_way x n s (stand.Ended left) what a at w due is = absurd cc
+answered_way x n s (stand.Ended left) command a is_at w due is = absurd cc
 
--- If a hand-off has no turn left, it has ended.
 none_left : (s : Stand) (stage : Stage) → turns_left s stage ≤ 0 → IsSome (left_at s)
 none_left (stand.Ended left) stage l = refl
 none_left stand.Consumer (Giving reach waiting asked lost) l = absurd (omega arith)
 none_left _ _ l = absurd (omega arith)
 
-ends_by : (n at by : ℕ) (h : List Turn) (x : HandOff) (o : Option Command) → hand_command x.held x.made (state_of x) ≡ o
+ends_by : (n moment actor : ℕ) (h : List Turn) (x : HandOff) (o : Option Command)
+    → hand_command x.held x.made (state_of x) ≡ o
     → OnWay x (suc n) → hand_due x.made (state_of x) ≡ None
-    → ((h : List Turn) (y : HandOff) → OnWay y n → IsSome (hand_left (state_of (run_hand n at by h y).hand)))
+    → ((h : List Turn) (y : HandOff) → OnWay y n → IsSome (hand_left (state_of (run_hand n moment actor h y).hand)))
     → IsSome (hand_left (state_of
     (or_stop o (record { history = h; hand = x; deals = [] })
-    (λ what. with_first h what at by
-    (run_hand n at by (turn_of at by what ∷ h) (answered_by at by h x what)))).hand))
-ends_by n at by h x None is w due rest =
+    (λ command. with_first h command moment actor
+    (run_hand n moment actor (turn_of moment actor command ∷ h) (answered_by moment actor h x command)))).hand))
+ends_by n moment actor h x None is w due rest =
     stops x (stage_after x.made (state_of x).past) (state_of x).stand w.going w.leaving due is
-ends_by n at by h x (Some what) is w due rest =
-    rest (turn_of at by what ∷ h) (answered_by at by h x what)
-    (answered_way x n (state_of x) (state_of x).stand what (answer h (turn_of at by what)) refl w due is)
+ends_by n moment actor h x (Some command) is w due rest =
+    rest (turn_of moment actor command ∷ h) (answered_by moment actor h x command)
+    (answered_way x n (state_of x) (state_of x).stand command (answer h (turn_of moment actor command)) refl w due is)
 
-ends : (n at by : ℕ) (h : List Turn) (x : HandOff) → OnWay x n
-    → IsSome (hand_left (state_of (run_hand n at by h x).hand))
-ends zero at by h x w =
+ends : (n moment actor : ℕ) (h : List Turn) (x : HandOff) → OnWay x n
+    → IsSome (hand_left (state_of (run_hand n moment actor h x).hand))
+ends zero moment actor h x w =
     let c = called_way x 0 w (hand_due x.made (state_of x)) refl in
     none_left (state_of (called_up x)).stand (stage_after (called_up x).made (state_of (called_up x)).past) c.0.few_left
-ends (suc n) at by h x w =
+ends (suc n) moment actor h x w =
     let c = called_way x (suc n) w (hand_due x.made (state_of x)) refl in
-    ends_by n at by h (called_up x) (hand_command (called_up x).held (called_up x).made (state_of (called_up x)))
-    refl c.0 (due_none x (hand_due x.made (state_of x)) c.1) (λ k y v. ends n at by k y v)
+    ends_by n moment actor h (called_up x) (hand_command (called_up x).held (called_up x).made (state_of (called_up x)))
+    refl c.0 (due_none x (hand_due x.made (state_of x)) c.1) (λ k y v. ends n moment actor k y v)
   where
     due_none : (x : HandOff) (o : Option Due) → hand_due x.made (state_of (called_if o x)) ≡ None
         → hand_due (called_if o x).made (state_of (called_if o x)) ≡ None
     due_none x None e = e
     due_none x (Some due) e = e
 
--- The run of a hand-off that begins with the release `r` ends: after at most three commands the hand-off has ended.
-pub all_end : (at by : ℕ) (h : List Turn) (r : Release)
-    → IsSome (hand_left (state_of (hand_run at by h (hand_of r [])).hand))
-all_end at by h r =
+pub all_end : (moment actor : ℕ) (h : List Turn) (r : Release)
+    → IsSome (hand_left (state_of (hand_run moment actor h (hand_of r [])).hand))
+all_end moment actor h r =
     let past = Losing ∷ r.known.past in
     let made = r.known.made in
-    ends 3 at by h (hand_of r []) (record {
+    ends 3 moment actor h (hand_of r []) (record {
       going = goes r.held (last_given made past) (stage_after made past) _ refl;
       leaving = lost_leaves (stage_after made r.known.past);
       few_left = few (stand_by r.held (last_given made past) (over_at (stage_after made past))) (stage_after made past);

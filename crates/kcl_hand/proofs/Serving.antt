@@ -1,10 +1,10 @@
--- The processors of a worker, and of the hand-offs of the leases that it released, are called for the given reads of
--- their tenures in a history.
+-- The processors of a worker and its hand-offs are called for the given reads of their tenures.
 use Rattle.std.proofs.Common.{◌≡◌, ℕ, zero, suc, ◌+◌, ◌≤◌, true, List, [], ◌∷◌, ◌++◌, Option, Some, None, refl, sym}
 use Rattle.std.proofs.Common.{subst, ◌∙◌, arith}
 use Rattle.std.specs.Prelude.{map}
 use Rattle.std.specs.List.{AllByRecursion}
 use Rattle.std.proofs.lemmas.List.{map-append}
+use Rattle.kds_base.proofs.Facts.{all_append, all_weaker}
 use Rattle.kds_defs.specs.declared.command.Command.{Command}
 use Rattle.kds_defs.specs.declared.command.Turn.{Turn}
 use Rattle.kcl_defs.specs.declared.consumer.WorkerMade.{WorkerMade}
@@ -20,7 +20,7 @@ use Rattle.kcl_defs.proofs.RetiredLemmas.{AreUnrefused, IsUnrefused, all_whole, 
 use Rattle.kcl_defs.proofs.RetiredLemmas.{lost_unrefused, state_unrefused, whole_among}
 use Rattle.kcl_defs.proofs.StepLemmas.{life_among}
 use Rattle.kcl_defs.proofs.TenancyLemmas.{all_both, all_tenures, of_tenancy}
-use Rattle.kcl_defs.proofs.KnownLemmas.{InStep, all_append, all_map, times, times-append}
+use Rattle.kcl_defs.proofs.KnownLemmas.{InStep, times, times-append}
 use Rattle.kcl_defs.proofs.FineLemmas.{AreGood, AreNewTenures, IsFine, IsOwnCommand, IsWaitingOk}
 use Rattle.kcl_defs.proofs.WorkerLemmas.{new_before}
 use Rattle.kcl_hand.specs.declared.stand.Stand.{Stand}
@@ -40,19 +40,19 @@ one_unrefused : (x : HandOff) (event : HandEvent) (o : Option Command) (deals : 
     → hand_command x.held x.made (state_of x) ≡ o → MayHand event o → AreGivesTaken (hand_deals event o deals)
     → InStep deals (known_in x) → IsUnrefused (known_in x)
     → IsUnrefused (known_in (record x { since = event ∷ x.since }))
-one_unrefused x (Hand_called asked) o deals is may taken s u = by (state_of x).stand
+one_unrefused x (Hand_called asked) o deals is may taken s u = cases (state_of x).stand
   where
-    by : (st : Stand) → IsUnrefused
+    cases : (st : Stand) → IsUnrefused
         (record { made = x.made; past = (called_at x.held x.made asked (state_of x) st).past })
-    by stand.Consumer = called_unrefused asked (known_in x) u
-    by _ = u
+    cases stand.Consumer = called_unrefused asked (known_in x) u
+    cases _ = u
 one_unrefused x (Hand_answered answer) None deals is may taken s u = absurd cc
-one_unrefused x (Hand_answered answer) (Some what) deals is may taken s u = by (state_of x).stand is
+one_unrefused x (Hand_answered answer) (Some command) deals is may taken s u = cases (state_of x).stand is
   where
-    by : (st : Stand) → command_at x.held x.made (stage_of_known (known_in x)) st ≡ Some what
+    cases : (st : Stand) → command_at x.held x.made (stage_of_known (known_in x)) st ≡ Some command
         → IsUnrefused (record { made = x.made; past = (answered_at x.held x.made answer (state_of x) st).past })
-    by stand.Consumer e = answered_unrefused deals (known_in x) x.held.counter what answer e taken.0 s u
-    by _ e = u
+    cases stand.Consumer e = answered_unrefused deals (known_in x) x.held.counter command answer e taken.0 s u
+    cases _ e = u
 
 hand_unrefused : (n : ℕ) (event : HandEvent) (hands : List HandOff) (deals : List Deal)
     → MayHand event (command_in n hands) → AreGivesTaken (hand_deals event (command_in n hands) deals)
@@ -107,8 +107,7 @@ own_waits hands w (Some p) h = own p.chore h
 
 -- ---- The record
 
--- Each tenure has at most one consumer, of the worker or of a hand-off, all records agree with the commands `deals`
--- (`JointFine`), and no Give of any consumer was refused.
+-- One consumer for each tenure, traces that agree with the deals, and no refused Give.
 pub record JointOk (deals : List Deal) (hands : List HandOff) (w : WorkerState) : Type 0 where
   pub fine : JointFine deals hands w
   pub unrefused : AreUnrefused w.consumers w.retired
@@ -118,21 +117,21 @@ new_hand : (event : HandEvent) (o : Option Command) (deals : List Deal) → AreN
     → AreNewTenures deals
 new_hand (Hand_called asked) o deals h = h
 new_hand (Hand_answered answer) None deals h = h
-new_hand (Hand_answered answer) (Some what) deals h = h.1
+new_hand (Hand_answered answer) (Some command) deals h = h.1
 
 taken_hand : (event : HandEvent) (o : Option Command) (deals : List Deal) → AreGivesTaken (hand_deals event o deals)
     → AreGivesTaken deals
 taken_hand (Hand_called asked) o deals h = h
 taken_hand (Hand_answered answer) None deals h = h
-taken_hand (Hand_answered answer) (Some what) deals h = h.1
+taken_hand (Hand_answered answer) (Some command) deals h = h.1
 
 taken_worker : (event : WorkerEvent) (w : WorkerState) (deals : List Deal) → AreGivesTaken (deals_with event w deals)
     → AreGivesTaken deals
-taken_worker (Got_answer now answer) w deals h = before w.waiting h
+taken_worker (Got_answer now answer) w deals h = cases w.waiting h
   where
-    before : (o : Option Pending) → AreGivesTaken (with_deal o answer deals) → AreGivesTaken deals
-    before None h = h
-    before (Some p) h = h.1
+    cases : (o : Option Pending) → AreGivesTaken (with_deal o answer deals) → AreGivesTaken deals
+    cases None h = h
+    cases (Some p) h = h.1
 taken_worker _ w deals h = h
 
 worker_ok : (made : WorkerMade) (event : WorkerEvent) (hands : List HandOff) (w : WorkerState) (deals : List Deal)
@@ -160,9 +159,6 @@ hand_ok n event hands w deals may taken ok = record {
       (all_left (InStep deals) (map known_in hands) w.retired ok.fine.good.over) ok.handed;
 }
 
--- Assume that each tenure that an answer began was new, and that each refused Give came when no read of its tenure
--- waited to be given. Then after a joint record of calls that meet their preconditions, each tenure has at most one
--- consumer, all records agree with the commands, and no Give was refused (`JointOk`).
 pub joint_ok : (made : WorkerMade) (past : JointPast) → AreOrderly made past → AreNewTenures (joint_deals made past)
     → AreGivesTaken (joint_deals made past)
     → JointOk (joint_deals made past) (hands_after made past) (worker_in made past)
@@ -189,8 +185,7 @@ joint_ok made (Of_hand n event ∷ past) orderly new taken =
 
 -- ---- The calls of the processors
 
--- The calls of the hand-off's processor fit the reads and gives of its tenure among `deals` (`IsLife`). Once the
--- hand-off's consumer is over, each batch that the processor was handed is given.
+-- The processor's calls fit its tenure's reads and Gives, and once it is over, each batch is given.
 abbrev IsHandLife : List Deal → HandOff → Type 0
 IsHandLife deals x =
     IsLifeAmong deals x.made (calls_after x.made (state_of x).past)
@@ -206,9 +201,7 @@ hands_live deals (x ∷ xs) s u = (
   hands_live deals xs s.1 u.1,
 )
 
--- The calls of each processor, of the worker and of its hand-offs, fit the reads and gives of its tenure among `deals`
--- (`IsLife`). If the consumer is retired, or is that of a hand-off and over, each batch that the processor was handed
--- is given.
+-- All processors' calls fit, and each batch of a consumer that is retired or over is given.
 pub record AreAllAlive (deals : List Deal) (hands : List HandOff) (w : WorkerState) : Type 0 where
   pub consumers : AllByRecursion (λ k. IsLifeAmong deals k.made (calls_after k.made k.past)) w.consumers
   pub retired : AllByRecursion
@@ -219,34 +212,31 @@ pub record AreAllAlive (deals : List Deal) (hands : List HandOff) (w : WorkerSta
 all_alive : (deals : List Deal) (hands : List HandOff) (w : WorkerState) → JointOk deals hands w
     → AreAllAlive deals hands w
 all_alive deals hands w ok = record {
-  consumers = all_map (InStep deals) _ w.consumers (λ k s. life_among deals k.made k.past s) ok.fine.good.live;
+  consumers = all_weaker (InStep deals) _ (λ k s. life_among deals k.made k.past s) w.consumers ok.fine.good.live;
   retired = all_whole deals w.retired (all_right (InStep deals) (map known_in hands) w.retired ok.fine.good.over)
       ok.unrefused.over ok.unrefused.ended;
   handed = hands_live deals hands (all_left (InStep deals) (map known_in hands) w.retired ok.fine.good.over) ok.handed;
 }
 
--- If commands of the actor `by` began the tenures of all hand-offs, and the calls of their processors fit the actor's
--- reads and gives (`IsHandLife`), the hand-offs are served (`IsHandServed`).
-pub hands_served : (by : ℕ) (h : List Turn) (hands : List HandOff) → AllByRecursion (IsBegunHand (deals_of by h)) hands
-    → AllByRecursion (IsHandLife (deals_of by h)) hands → AllByRecursion (IsHandServed by h) hands
-hands_served by h [] begun all = tt
-hands_served by h (x ∷ xs) begun all =
-    let t = of_tenancy by h x.made begun.0 in
-    (record { calls = (t, all.0.0); whole = λ over. (t, all.0.1 over) }, hands_served by h xs begun.1 all.1)
+pub hands_served : (actor : ℕ) (h : List Turn) (hands : List HandOff)
+    → AllByRecursion (IsBegunHand (deals_of actor h)) hands
+    → AllByRecursion (IsHandLife (deals_of actor h)) hands → AllByRecursion (IsHandServed actor h) hands
+hands_served actor h [] begun all = tt
+hands_served actor h (x ∷ xs) begun all =
+    let t = of_tenancy actor h x.made begun.0 in
+    (record { calls = (t, all.0.0); whole = λ over. (t, all.0.1 over) }, hands_served actor h xs begun.1 all.1)
 
--- If the turns of the actor `by` in the history `h` are the commands of the joint record, then `AreAllServed` holds:
--- the processors of the worker and of its hand-offs were called for the given reads of their tenures.
-pub all_served : (by : ℕ) (h : List Turn) (made : WorkerMade) (past : JointPast) → AreOrderly made past
-    → AreToldIn by h made past → AreAllServed by h made past
-all_served by h made past orderly told =
+pub all_served : (actor : ℕ) (h : List Turn) (made : WorkerMade) (past : JointPast) → AreOrderly made past
+    → AreToldIn actor h made past → AreAllServed actor h made past
+all_served actor h made past orderly is_told =
     let w = worker_in made past in
     let hands = hands_after made past in
-    let ok = joint_ok made past orderly (subst AreNewTenures told (new_tenures by h))
-    (subst AreGivesTaken told (gives_taken by h)) in
-    let all = subst (λ deals. AreAllAlive deals hands w) (sym told) (all_alive (joint_deals made past) hands w ok) in
-    let begun = subst (λ deals. AreAllBegun deals hands w) (sym told) (all_begun made past) in
+    let ok = joint_ok made past orderly (subst AreNewTenures is_told (new_tenures actor h))
+    (subst AreGivesTaken is_told (gives_taken actor h)) in
+    let all = subst (λ deals. AreAllAlive deals hands w) (sym is_told) (all_alive (joint_deals made past) hands w ok) in
+    let begun = subst (λ deals. AreAllBegun deals hands w) (sym is_told) (all_begun made past) in
     record {
-      consumers = all_both _ _ w.consumers (all_tenures by h w.consumers begun.worker.live) all.consumers;
-      retired = all_both _ _ w.retired (all_tenures by h w.retired begun.worker.over) all.retired;
-      handed = hands_served by h hands begun.handed all.handed;
+      consumers = all_both _ _ w.consumers (all_tenures actor h w.consumers begun.worker.live) all.consumers;
+      retired = all_both _ _ w.retired (all_tenures actor h w.retired begun.worker.over) all.retired;
+      handed = hands_served actor h hands begun.handed all.handed;
     }

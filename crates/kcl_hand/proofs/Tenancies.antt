@@ -1,9 +1,9 @@
--- The tenure of each consumer of a worker was begun by a command of the worker. So was the tenure of each hand-off of a
--- lease that the worker released.
+-- Commands of the worker began the tenures of all its consumers and hand-offs.
 use Rattle.std.proofs.Common.{◌≡◌, ℕ, zero, suc, List, [], ◌∷◌, ◌++◌, Option, Some, None, refl, sym, subst, inr}
 use Rattle.std.specs.Prelude.{Result}
 use Rattle.std.specs.List.{AllByRecursion}
 use Rattle.std.proofs.lemmas.List.{append-nil}
+use Rattle.kds_base.proofs.Facts.{all_weaker}
 use Rattle.kds_defs.specs.declared.command.Command.{Command}
 use Rattle.kds_defs.specs.declared.reply.Refusal.{Refusal}
 use Rattle.kds_defs.specs.declared.reply.Reply.{Reply}
@@ -12,17 +12,16 @@ use Rattle.kcl_defs.specs.Lives.{Deal}
 use Rattle.kcl_defs.specs.Workers.{Pending, Release, Released, WorkerEvent, Made_call, Gave_command, Got_answer}
 use Rattle.kcl_defs.specs.Workers.{Stopped, WorkerState, deals_with, id_of_held, leaving, released, with_deal}
 use Rattle.kcl_defs.proofs.TenancyLemmas.{AreBegun, IsBegun, IsBegunIn, state_begun}
-use Rattle.kcl_defs.proofs.KnownLemmas.{all_map}
 use Rattle.kcl_hand.specs.Handing.{HandEvent, Hand_answered, Hand_called}
 use Rattle.kcl_hand.specs.Joints.{HandOff, JointPast, Of_hand, Of_worker, begun, begun_by, command_in, hand_deals}
 use Rattle.kcl_hand.specs.Joints.{hands_after, joint_deals, with_hand_event, worker_in}
 use Rattle.kcl_hand.proofs.Jointly.{found_all, release_is}
 
--- One of the commands `deals` began the tenure of the hand-off `x`.
+-- One of the deals began the hand-off's tenure.
 abbrev pub IsBegunHand : List Deal → HandOff → Type 0
 IsBegunHand deals x = IsBegunIn deals x.made
 
--- The commands `deals` began the tenures of all consumers of the worker, retired or not, and of all hand-offs.
+-- The deals began the tenures of all consumers, live and retired, and of all hand-offs.
 pub record AreAllBegun (deals : List Deal) (hands : List HandOff) (w : WorkerState) : Type 0 where
   pub worker : AreBegun deals w
   pub handed : AllByRecursion (IsBegunHand deals) hands
@@ -77,8 +76,8 @@ hand_event (suc n) event deals (x ∷ xs) h = (h.0, hand_event n event deals xs 
 
 more_begun : (deal : Deal) (deals : List Deal) (w : WorkerState) → AreBegun deals w → AreBegun (deal ∷ deals) w
 more_begun deal deals w b = record {
-  live = all_map (IsBegun deals) (IsBegun (deal ∷ deals)) w.consumers (λ k g. inr g) b.live;
-  over = all_map (IsBegun deals) (IsBegun (deal ∷ deals)) w.retired (λ k g. inr g) b.over;
+  live = all_weaker (IsBegun deals) (IsBegun (deal ∷ deals)) (λ k g. inr g) w.consumers b.live;
+  over = all_weaker (IsBegun deals) (IsBegun (deal ∷ deals)) (λ k g. inr g) w.retired b.over;
   waits = b.waits;
 }
 
@@ -89,8 +88,8 @@ hand_begun n (Hand_called asked) o deals hands w b =
     record { worker = b.worker; handed = hand_event n (Hand_called asked) deals hands b.handed }
 hand_begun n (Hand_answered answer) None deals hands w b =
     record { worker = b.worker; handed = hand_event n (Hand_answered answer) deals hands b.handed }
-hand_begun n (Hand_answered answer) (Some what) deals hands w b =
-    let deal : Deal = record { what = what; answer = answer } in
+hand_begun n (Hand_answered answer) (Some command) deals hands w b =
+    let deal : Deal = record { what = command; answer = answer } in
     record {
       worker = more_begun deal deals w b.worker;
       handed = hand_event n (Hand_answered answer) (deal ∷ deals) hands (more_hands deal deals hands b.handed);
@@ -98,8 +97,6 @@ hand_begun n (Hand_answered answer) (Some what) deals hands w b =
 
 -- ---- The record
 
--- The answered commands of each joint record began the tenures of all consumers of the worker and of all hand-offs
--- (`AreAllBegun`).
 pub all_begun : (made : WorkerMade) (past : JointPast)
     → AreAllBegun (joint_deals made past) (hands_after made past) (worker_in made past)
 all_begun made [] = record { worker = record { live = tt; over = tt; waits = tt }; handed = tt }

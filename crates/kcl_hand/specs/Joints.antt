@@ -1,5 +1,4 @@
--- The state of a worker and of its hand-offs, as it follows from the joint record of their events. A worker has one
--- hand-off for each lease that it released.
+-- The state of a worker and its hand-offs, one for each released lease, from their joint trace.
 use Rattle.std.specs.Prelude.{ℕ, zero, suc, ◌≡◌, true, IsSome, List, [], ◌∷◌, ◌++◌, Option, Some, None, Result}
 use Rattle.std.specs.List.{AllByRecursion}
 use Rattle.kds_defs.specs.declared.command.Command.{Command}
@@ -16,97 +15,90 @@ use Rattle.kcl_defs.specs.Workers.{Known, Release, Released, WorkerEvent, Worker
 use Rattle.kcl_defs.specs.Workers.{released, worker_after}
 use Rattle.kcl_hand.specs.Handing.{HandEvent, HandPast, HandState, Hand_answered, Hand_called, hand_after, hand_command}
 
--- An event of the worker (`Of_worker`), or an event of the hand-off of the n-th lease that the worker released, counted
--- from 0 (`Of_hand`).
+-- An event of the worker, or of the hand-off of the n-th released lease, counted from 0.
 pub data JointEvent : Type 0 where
   Of_worker : WorkerEvent → JointEvent
   Of_hand : ℕ → HandEvent → JointEvent
 
--- The joint record of a worker and its hand-offs: the events of the worker and of each hand-off so far, the newest
--- first.
+-- A joint trace: the events of a worker and its hand-offs, newest first.
 abbrev pub JointPast : Type 0
 JointPast = List JointEvent
 
--- A hand-off: its lease (`held`), the values from which its consumer was made (`made`), the consumer's record up to the
--- loss of the lease (`before`), and the hand-off's own events (`since`).
+-- A hand-off: its lease, its consumer's trace up to the loss (`before`), and its own events (`since`).
 pub record HandOff : Type 0 where
   pub held : Held
   pub made : Tenancy
   pub before : Past
   pub since : HandPast
 
--- The state of the hand-off `x` after its events.
-abbrev pub state_of : HandOff → HandState
+-- The state of a hand-off after its events.
+abbrev pub state_of : (x : HandOff) → HandState
 state_of x = hand_after x.held x.made x.before x.since
 
--- The consumer of the hand-off `x`, with its record after the events of `x`.
-abbrev pub known_in : HandOff → Known
+-- A hand-off's consumer, with its trace after the hand-off's events.
+abbrev pub known_in : (x : HandOff) → Known
 known_in x = record { made = x.made; past = (state_of x).past }
 
 -- ---- The worker
 
--- The worker's own events of a joint record, the newest first.
-abbrev pub worker_past : JointPast → WorkerPast
+-- The worker's own events in a joint trace, newest first.
+abbrev pub worker_past : (past : JointPast) → WorkerPast
 worker_past [] = []
 worker_past (Of_worker event ∷ past) = event ∷ worker_past past
 worker_past (Of_hand n event ∷ past) = worker_past past
 
--- The state of the worker after the joint record `past`.
-abbrev pub worker_in : WorkerMade → JointPast → WorkerState
+-- The worker's state after a joint trace.
+abbrev pub worker_in : (made : WorkerMade) (past : JointPast) → WorkerState
 worker_in made past = worker_after made (worker_past past)
 
 -- ---- The hand-offs
 
--- The hand-off that the release `r` begins, after the hand-off's events `since`.
-abbrev pub hand_of : Release → HandPast → HandOff
-hand_of r since = record { held = r.held; made = r.known.made; before = Losing ∷ r.known.past; since = since }
+-- The hand-off that a release begins, after the events `events`; its consumer has just lost the lease.
+abbrev pub hand_of : (r : Release) (events : HandPast) → HandOff
+hand_of r events = record { held = r.held; made = r.known.made; before = Losing ∷ r.known.past; since = events }
 
--- The hand-off that the release begins, as a list of one. The list is empty if nothing is released.
-abbrev pub begun : Option Release → List HandOff
+-- The hand-off that the release begins, as a list of at most one.
+abbrev pub begun : (r : Option Release) → List HandOff
 begun None = []
 begun (Some r) = hand_of r [] ∷ []
 
--- The hand-off that the event begins if it happens to the worker in the state `w`, as a list of one. The list is empty
--- unless the event is a release that takes a lease out.
-abbrev pub begun_by : WorkerEvent → WorkerState → List HandOff
+-- The hand-off that the event begins, as a list of at most one; only releases begin one.
+abbrev pub begun_by : (worker_event : WorkerEvent) (w : WorkerState) → List HandOff
 begun_by (Released key) w = begun (released key w)
 begun_by _ w = []
 
--- The hand-offs after the event `event` happened to the n-th one, counted from 0. If there is no n-th one, nothing
--- changes.
-abbrev pub with_hand_event : ℕ → HandEvent → List HandOff → List HandOff
+-- The hand-offs after an event of the n-th, counted from 0; unchanged if there is none.
+abbrev pub with_hand_event : (n : ℕ) (event : HandEvent) (xs : List HandOff) → List HandOff
 with_hand_event n event [] = []
 with_hand_event zero event (x ∷ xs) = record x { since = event ∷ x.since } ∷ xs
 with_hand_event (suc n) event (x ∷ xs) = x ∷ with_hand_event n event xs
 
--- The hand-offs of the worker after the joint record, in the order of their releases.
-abbrev pub hands_after : WorkerMade → JointPast → List HandOff
+-- The worker's hand-offs after a joint trace, in the order of their releases.
+abbrev pub hands_after : (made : WorkerMade) (past : JointPast) → List HandOff
 hands_after made [] = []
 hands_after made (Of_worker event ∷ past) = hands_after made past ++ begun_by event (worker_in made past)
 hands_after made (Of_hand n event ∷ past) = with_hand_event n event (hands_after made past)
 
--- The next command of the n-th of the hand-offs, counted from 0. It is None if there is no n-th hand-off, or if no
--- command comes next in the n-th hand-off.
-abbrev pub command_in : ℕ → List HandOff → Option Command
+-- The next command of the n-th hand-off, counted from 0, if any.
+abbrev pub command_in : (n : ℕ) (xs : List HandOff) → Option Command
 command_in n [] = None
 command_in zero (x ∷ xs) = hand_command x.held x.made (state_of x)
 command_in (suc n) (x ∷ xs) = command_in n xs
 
 -- ---- The commands of the worker and its hand-offs, in the order in which their answers were taken, the newest first
 
--- `deals` with the command in the first argument and its answer `answer` as the newest, if there is a command.
-abbrev pub answered_deals : Option Command → Result Reply Refusal → List Deal → List Deal
+-- The deals with this command, if any, and its answer as the newest.
+abbrev pub answered_deals : (command : Option Command) (answer : Result Reply Refusal) (deals : List Deal) → List Deal
 answered_deals None answer deals = deals
-answered_deals (Some what) answer deals = record { what = what; answer = answer } ∷ deals
+answered_deals (Some command) answer deals = record { what = command; answer = answer } ∷ deals
 
--- `deals` after the event happened to a hand-off whose next command is `o`. If the event is an answer and there is a
--- next command, this command and the answer are added as the newest.
-abbrev pub hand_deals : HandEvent → Option Command → List Deal → List Deal
+-- The deals after an event of a hand-off with next command `o`, which an answer adds.
+abbrev pub hand_deals : (hand_event : HandEvent) (o : Option Command) (deals : List Deal) → List Deal
 hand_deals (Hand_called asked) o deals = deals
 hand_deals (Hand_answered answer) o deals = answered_deals o answer deals
 
--- The commands of the worker and of its hand-offs that were answered, with their answers, the newest first.
-abbrev pub joint_deals : WorkerMade → JointPast → List Deal
+-- The answered commands of a worker and its hand-offs, newest first.
+abbrev pub joint_deals : (made : WorkerMade) (past : JointPast) → List Deal
 joint_deals made [] = []
 joint_deals made (Of_worker event ∷ past) = deals_with event (worker_in made past) (joint_deals made past)
 joint_deals made (Of_hand n event ∷ past) =
@@ -114,36 +106,30 @@ joint_deals made (Of_hand n event ∷ past) =
 
 -- ---- What may happen, and when
 
--- The event may happen to a hand-off whose next command is `o`. An answer may come only if there is a next command.
-abbrev pub MayHand : HandEvent → Option Command → Type 0
+-- A call may always come, and an answer only if there is a next command.
+abbrev pub MayHand : (hand_event : HandEvent) (o : Option Command) → Type 0
 MayHand (Hand_called asked) o = Unit {0}
 MayHand (Hand_answered answer) o = IsSome o
 
--- Each event of the joint record may happen after the older events. So the record results from calls of the functions
--- of the worker and its hand-offs that meet the preconditions of these functions.
-abbrev pub AreOrderly : WorkerMade → JointPast → Type 0
+-- Each event of the joint trace may happen after the older ones.
+abbrev pub AreOrderly : (made : WorkerMade) (past : JointPast) → Type 0
 AreOrderly made [] = Unit {0}
 AreOrderly made (Of_worker event ∷ past) = MayHappen made event (worker_in made past) × AreOrderly made past
 AreOrderly made (Of_hand n event ∷ past) = MayHand event (command_in n (hands_after made past)) × AreOrderly made past
 
--- The turns of the actor `by` in the history `h` are the answered commands of the joint record `past`, with the answers
--- of the record.
-abbrev pub AreToldIn : ℕ → List Turn → WorkerMade → JointPast → Type 0
-AreToldIn by h made past = deals_of by h ≡ joint_deals made past
+-- The actor's turns in a history are the joint trace's commands with its answers.
+abbrev pub AreToldIn : (actor : ℕ) (h : List Turn) (made : WorkerMade) (past : JointPast) → Type 0
+AreToldIn actor h made past = deals_of actor h ≡ joint_deals made past
 
 -- ---- The calls of the processors
 
--- The consumer of the hand-off `x` belongs to a tenure of the actor `by` in the history `h`, and its processor was
--- called for the given reads of this tenure. Once the consumer is over, each batch that the processor was handed is
--- given.
-pub record IsHandServed (by : ℕ) (h : List Turn) (x : HandOff) : Type 0 where
-  pub calls : IsServed by h (known_in x)
-  pub whole : is_over (known_in x) ≡ true → IsServedWhole by h (known_in x)
+-- The processor was called for its tenure's given reads; once over, each batch handed over is given.
+pub record IsHandServed (actor : ℕ) (h : List Turn) (x : HandOff) : Type 0 where
+  pub calls : IsServed actor h (known_in x)
+  pub whole : is_over (known_in x) ≡ true → IsServedWhole actor h (known_in x)
 
--- After the joint record `past`, each consumer of the worker and of its hand-offs belongs to a tenure of the actor `by`
--- in the history `h`. The consumer's processor was called for the given reads of this tenure. If the consumer is
--- retired, or is that of a hand-off and over, each batch that the processor was handed is given.
-pub record AreAllServed (by : ℕ) (h : List Turn) (made : WorkerMade) (past : JointPast) : Type 0 where
-  pub consumers : AllByRecursion (IsServed by h) (worker_in made past).consumers
-  pub retired : AllByRecursion (IsServedWhole by h) (worker_in made past).retired
-  pub handed : AllByRecursion (IsHandServed by h) (hands_after made past)
+-- All processors were called for their tenures' given reads; a retired or ended one's batches are all given.
+pub record AreAllServed (actor : ℕ) (h : List Turn) (made : WorkerMade) (past : JointPast) : Type 0 where
+  pub consumers : AllByRecursion (IsServed actor h) (worker_in made past).consumers
+  pub retired : AllByRecursion (IsServedWhole actor h) (worker_in made past).retired
+  pub handed : AllByRecursion (IsHandServed actor h) (hands_after made past)

@@ -1,5 +1,4 @@
--- What follows the first word of an entry is read as it is written (`IsForm`): a text that is read as some values is
--- the text of these values, and the text of values in their ranges is read as these values.
+-- The text after an entry's first word makes a round trip.
 use Rattle.std.proofs.Common.{ℕ, List, ◌∷◌, ◌++◌, Bool, refl, arith, decimal}
 use Rattle.kds_base.specs.Names.{IsName, name_of}
 use Rattle.kds_base.specs.declared.lease_key.ShardRef.{ShardRef}
@@ -17,15 +16,12 @@ use Rattle.kcl_journal.proofs.TextForms.{hash_lacks, name_form, name_lacks, numb
 use Rattle.kcl_journal.proofs.TextForms.{within_form, within_lacks}
 use Rattle.kcl_journal.proofs.WordLists.{IsBatch, batch_text, batch_form}
 
--- The text after the word `made` is read as it is written: the stream's number, its name and the number of its shards.
 pub made_form : IsForm (λ (a : ℕ × (List ℕ × ℕ)). Is64 a.0 × (IsName a.1.0 × IsWithin LEAST_SHARDS MOST_SHARDS a.1.1))
     (two 32 number (two 32 name_of (within_of LEAST_SHARDS MOST_SHARDS)))
     (λ (a : ℕ × (List ℕ × ℕ)). decimal a.0 ++ 32 ∷ (a.1.0 ++ 32 ∷ decimal a.1.1))
 made_form = two_form 32 refl number_lacks number_form
     (two_form 32 refl name_lacks name_form (within_form LEAST_SHARDS MOST_SHARDS (omega arith)))
 
--- The text after the word `put` is read as it is written in this version: the stream, the shard, the sequence number,
--- the hash key and the sizes.
 pub put_form : (version : ℕ)
     → IsForm (λ (a : ℕ × (ℕ × (ℕ × (ℕ × (ℕ × ℕ))))). Is64 a.0
     × (Is64 a.1.0 × (Is64 a.1.1.0 × (IsHash a.1.1.1.0 × AreSizes version a.1.1.1.1.0 a.1.1.1.1.1))))
@@ -37,8 +33,6 @@ put_form version = two_form 32 refl number_lacks number_form
     (two_form 32 refl number_lacks number_form (two_form 32 refl number_lacks number_form
     (two_form 32 refl hash_lacks hash_form (sizes_form (is_first version)))))
 
--- The text after the word `split` is read as it is written: the stream, the shard, the hash key, the sequence number
--- and the two new shards.
 pub split_form : IsForm (λ (a : ℕ × (ℕ × (ℕ × (ℕ × (ℕ × ℕ))))). Is64 a.0
     × (Is64 a.1.0 × (IsHash a.1.1.0 × (Is64 a.1.1.1.0 × (Is64 a.1.1.1.1.0 × Is64 a.1.1.1.1.1)))))
     (two 32 number (two 32 number (two 32 hash_of (two 32 number (two 32 number number)))))
@@ -50,8 +44,6 @@ split_form = two_form 32 refl number_lacks number_form
     (two_form 32 refl number_lacks number_form (two_form 32 refl hash_lacks hash_form
     (two_form 32 refl number_lacks number_form (two_form 32 refl number_lacks number_form number_form))))
 
--- The text after the word `merged` is read as it is written: the stream, the two shards, the sequence number and the
--- new shard.
 pub merged_form : IsForm (λ (a : ℕ × (ℕ × (ℕ × (ℕ × ℕ)))). Is64 a.0
     × (Is64 a.1.0 × (Is64 a.1.1.0 × (Is64 a.1.1.1.0 × Is64 a.1.1.1.1))))
     (two 32 number (two 32 number (two 32 number (two 32 number number))))
@@ -61,17 +53,14 @@ merged_form = two_form 32 refl number_lacks number_form
     (two_form 32 refl number_lacks number_form (two_form 32 refl number_lacks number_form
     (two_form 32 refl number_lacks number_form number_form)))
 
--- The text after the word `kept` is read as it is written: the stream and the retention in hours.
 pub kept_form : IsForm (λ (a : ℕ × ℕ). Is64 a.0 × IsWithin LEAST_HOURS MOST_HOURS a.1)
     (two 32 number (within_of LEAST_HOURS MOST_HOURS)) (λ (a : ℕ × ℕ). decimal a.0 ++ 32 ∷ decimal a.1)
 kept_form = two_form 32 refl number_lacks number_form (within_form LEAST_HOURS MOST_HOURS (omega arith))
 
--- The text after the word `enforced` is read as it is written: the stream, and whether its limits are on.
 pub enforced_form : IsForm (λ (a : ℕ × Bool). Is64 a.0 × IsSwitch a.1) (two 32 number switch_of) (λ (a : ℕ × Bool).
     decimal a.0 ++ 32 ∷ switch_text a.1)
 enforced_form = two_form 32 refl number_lacks number_form switch_form
 
--- The text after the word `taken` is read as it is written: the key, the tenure, the row's counter and the worker.
 pub taken_form : IsForm (λ (a : ShardRef × (ℕ × (ℕ × ℕ))). IsKey a.0
     × (Is64 a.1.0 × (IsCounted a.1.1.0 × IsWorker a.1.1.1)))
     (two 32 key_of (two 32 number (two 32 counter_of worker_of)))
@@ -80,25 +69,21 @@ pub taken_form : IsForm (λ (a : ShardRef × (ℕ × (ℕ × ℕ))). IsKey a.0
 taken_form = two_form 32 refl key_lacks key_form
     (two_form 32 refl number_lacks number_form (two_form 32 refl counter_lacks counter_form worker_form))
 
--- The text after the word `renewed` or `freed` is read as it is written: the tenure and the row's counter.
 pub written_form : IsForm (λ (a : ℕ × ℕ). Is64 a.0 × IsCounted a.1) (two 32 number counter_of)
     (λ (a : ℕ × ℕ). decimal a.0 ++ 32 ∷ decimal a.1)
 written_form = two_form 32 refl number_lacks number_form counter_form
 
--- The text after the word `read` is read as it is written: the tenure, the limit of records and the batch.
 pub read_form : IsForm (λ (a : ℕ × (ℕ × (Bool × List ℕ))). Is64 a.0 × (IsWithin 1 MOST a.1.0 × IsBatch a.1.1))
     (two 32 number (two 32 (within_of 1 MOST) batch_of))
     (λ (a : ℕ × (ℕ × (Bool × List ℕ))). decimal a.0 ++ 32 ∷ (decimal a.1.0 ++ 32 ∷ batch_text a.1.1))
 read_form = two_form 32 refl number_lacks number_form
     (two_form 32 refl (within_lacks 1 MOST (omega arith)) (within_form 1 MOST (omega arith)) batch_form)
 
--- The text after the word `marked` is read as it is written: the tenure, the row's counter and the target.
 pub marked_form : IsForm (λ (a : ℕ × (ℕ × Target)). Is64 a.0 × (IsCounted a.1.0 × IsTarget a.1.1))
     (two 32 number (two 32 counter_of target_of))
     (λ (a : ℕ × (ℕ × Target)). decimal a.0 ++ 32 ∷ (decimal a.1.0 ++ 32 ∷ target_text a.1.1))
 marked_form = two_form 32 refl number_lacks number_form (two_form 32 refl counter_lacks counter_form target_form)
 
--- The text after the word `cut` is read as it is written: the key and the row's counter.
 pub cut_form : IsForm (λ (a : ShardRef × ℕ). IsKey a.0 × Is64 a.1) (two 32 key_of number) (λ (a : ShardRef × ℕ).
     key_text a.0 ++ 32 ∷ decimal a.1)
 cut_form = two_form 32 refl key_lacks key_form number_form

@@ -1,5 +1,4 @@
--- Each line of a journal has just one text: what is read as a line is the text of this line, and the text of a line is
--- read as this line.
+-- Each line of a journal has exactly one text, and makes a round trip.
 use Rattle.std.proofs.Common.{◌≡◌, ℕ, ◌<◌, ◌^◌, List, ◌∷◌, ◌++◌, true, Option, Some, None, refl, sym, ap, ◌∙◌, arith}
 use Rattle.std.proofs.Common.{codes, decimal, subst}
 use Rattle.std.specs.Prelude.{option_map}
@@ -34,26 +33,23 @@ is_worker n v = (v.0, omega (arith, v.1))
 
 -- ---- The first word of an entry, and what follows it
 
--- A text in this version can have the entry `e`, and the text of `e` is the word `word`, a space and then `text`.
+-- A possible entry in this version, whose text is `word`, a space and `text`.
 abbrev Spells : ℕ → List ℕ → List ℕ → Entry → Type 0
 Spells version word text e = IsTellable version e × (word ++ 32 ∷ text ≡ entry_text version e)
 
--- If the values after the word are read as they are written (`IsForm`), then an entry that is made from such values has
--- this word and this text (`Spells`).
 spelled : {A : Type 0} {V : A → Type 0} {f : List ℕ → Option A} {s : A → List ℕ} → (version : ℕ) (w word : List ℕ)
-    → IsForm V f s → (to : A → Entry)
-    → ((a : A) → V a → Spells version w (s a) (to a)) → (text : List ℕ) (e : Entry) → bytes_eq word w ≡ true
-    → option_map to (f text) ≡ Some e → Spells version word text e
-spelled {A} {V} {f} {s} version w word form to each text e same h =
-    let m = map_some to (f text) e h in
+    → IsForm V f s → (entry_of_value : A → Entry)
+    → ((a : A) → V a → Spells version w (s a) (entry_of_value a)) → (text : List ℕ) (e : Entry) → bytes_eq word w ≡ true
+    → option_map entry_of_value (f text) ≡ Some e → Spells version word text e
+spelled {A} {V} {f} {s} version w word form entry_of_value each text e same h =
+    let m = map_some entry_of_value (f text) e h in
     let d = form.spells text m.0 m.1 in
     let k = each m.0 d.0 in
-    let at_w : Spells version w text (to m.0) = (k.0, ap (λ z. w ++ 32 ∷ z) d.1 ∙ k.1) in
-    let at_word : Spells version word text (to m.0) =
-    subst (λ (z : List ℕ). Spells version z text (to m.0)) (sym ((bytes_eq-Decides word w).0 same)) at_w in
+    let at_w : Spells version w text (entry_of_value m.0) = (k.0, ap (λ z. w ++ 32 ∷ z) d.1 ∙ k.1) in
+    let at_word : Spells version word text (entry_of_value m.0) =
+    subst (λ (z : List ℕ). Spells version z text (entry_of_value m.0)) (sym ((bytes_eq-Decides word w).0 same)) at_w in
     subst (λ (z : Entry). Spells version word text z) m.2 at_word
 
--- What is read as an entry of a lease is the text of this entry.
 lease_spells : (v : ℕ) (word text : List ℕ) (e : Entry) → lease_by word text ≡ Some e → Spells v word text e
 lease_spells v word text e h =
     choose (bytes_eq word (codes "lease")) _ _ e h (spelled v (codes "lease") word row_form _ (λ a v. (v, refl)) text e)
@@ -76,7 +72,6 @@ lease_spells v word text e h =
     (spelled v (codes "cut") word cut_form _ (λ a v. (v, refl)) text e)
     (λ h. absurd (cc))))))))))
 
--- What is read as an entry is the text of this entry.
 by_spells : (v : ℕ) (word text : List ℕ) (e : Entry) → entry_by v word text ≡ Some e → Spells v word text e
 by_spells v word text e h =
     choose (bytes_eq word (codes "made")) _ _ e h (spelled v (codes "made") word made_form _ (λ a v. (v, refl)) text e)
@@ -94,11 +89,10 @@ by_spells v word text e h =
     (spelled v (codes "enforced") word enforced_form _ (λ a v. (v.0, refl)) text e)
     (lease_spells v word text e)))))))
 
--- The entry that a text without a clock and an actor is read as. The text begins with the entry's first word.
+-- The entry in a text without clock and actor.
 abbrev reading : ℕ → List ℕ → Option Entry
 reading v text = field text >>= λ p. entry_by v p.0 p.1
 
--- The text of an entry that a text in this version can have is read as this entry.
 what_again : (v : ℕ) (e : Entry) → IsTellable v e → reading v (entry_text v e) ≡ Some e
 what_again v (entry.Made s name count) t =
     ap (λ o. option_map (λ a. entry.Made a.0 a.1.0 a.1.1) o) (made_form.again (s, (name, count)) t)
@@ -106,17 +100,17 @@ what_again v (entry.Gone s) t = ap (λ o. option_map (λ n. entry.Gone n) o) (nu
 what_again v (entry.Put s sh number hash bytes key_bytes) t =
     ap (λ o. option_map (λ a. entry.Put a.0 a.1.0 a.1.1.0 a.1.1.1.0 a.1.1.1.1.0 a.1.1.1.1.1) o)
     ((put_form v).again (s, (sh, (number, (hash, (bytes, key_bytes))))) t)
-what_again v (entry.Split s sh at number low high) t =
+what_again v (entry.Split s sh key_hash number low high) t =
     ap (λ o. option_map (λ a. entry.Split a.0 a.1.0 a.1.1.0 a.1.1.1.0 a.1.1.1.1.0 a.1.1.1.1.1) o)
-    (split_form.again (s, (sh, (at, (number, (low, high))))) t)
+    (split_form.again (s, (sh, (key_hash, (number, (low, high))))) t)
 what_again v (entry.Merged s sh other number child) t =
     ap (λ o. option_map (λ a. entry.Merged a.0 a.1.0 a.1.1.0 a.1.1.1.0 a.1.1.1.1) o)
     (merged_form.again (s, (sh, (other, (number, child)))) t)
 what_again v (entry.Kept s hours) t = ap (λ o. option_map (λ a. entry.Kept a.0 a.1) o) (kept_form.again (s, hours) t)
-what_again v (entry.Enforced s on) t =
-    ap (λ o. option_map (λ a. entry.Enforced a.0 a.1) o) (enforced_form.again (s, on) (t, tt))
-what_again v (entry.LeaseMade key from) t =
-    ap (λ o. option_map (λ a. entry.LeaseMade a.0 a.1) o) (row_form.again (key, from) t)
+what_again v (entry.Enforced s is_on) t =
+    ap (λ o. option_map (λ a. entry.Enforced a.0 a.1) o) (enforced_form.again (s, is_on) (t, tt))
+what_again v (entry.LeaseMade key origin) t =
+    ap (λ o. option_map (λ a. entry.LeaseMade a.0 a.1) o) (row_form.again (key, origin) t)
 what_again v (entry.Taken key n counter owner) t =
     ap (λ o. option_map (λ a. entry.Taken a.0 a.1.0 a.1.1.0 a.1.1.1) o)
     (taken_form.again (key, (n, (counter, owner))) (t.0, (t.1.0, (is_counter _ t.1.1.0, is_worker _ t.1.1.1))))
@@ -129,9 +123,9 @@ what_again v (entry.Read n limit ended numbers) t =
     ap (λ o. option_map (λ a. entry.Read a.0 a.1.0 a.1.1.0 a.1.1.1) o)
     (read_form.again (n, (limit, (ended, numbers))) t)
 what_again v (entry.Given n) t = ap (λ o. option_map (λ n. entry.Given n) o) (number_form.again n t)
-what_again v (entry.Marked n counter to) t =
+what_again v (entry.Marked n counter target) t =
     ap (λ o. option_map (λ a. entry.Marked a.0 a.1.0 a.1.1) o)
-    (marked_form.again (n, (counter, to)) (t.0, (is_counter _ t.1.0, t.1.1)))
+    (marked_form.again (n, (counter, target)) (t.0, (is_counter _ t.1.0, t.1.1)))
 what_again v (entry.LeaseCut key counter) t =
     ap (λ o. option_map (λ a. entry.LeaseCut a.0 a.1) o) (cut_form.again (key, counter) t)
 
@@ -140,7 +134,6 @@ what_again v (entry.LeaseCut key counter) t =
 abbrev actor_form : IsForm (IsWithin 0 greatest32) (within_of 0 greatest32) decimal
 actor_form = within_form 0 greatest32 (omega arith)
 
--- A text that is read as a line is the text of this line, and a text in this version can have this line.
 pub entry_spells : (v : ℕ) (text : List ℕ) (line : EntryLine) → entry_of v text ≡ Some line → IsEntryLine v line
     × (text ≡ entry_spelling v line)
 unfolding entry_of
@@ -166,13 +159,11 @@ entry_spells v text line h =
     ∙ ap (λ z. decimal d.0 ++ 32 ∷ z) (ff.0 ∙ k.1)) in
     subst (λ (z : EntryLine). IsEntryLine v z × (text ≡ entry_spelling v z)) same (valid, spelt)
 
--- If reading on after `o` gives the value `y`, then reading on and applying `g` to it gives `g y`.
 bound_again : {A B C : Type 0} (o : Option A) (f : A → Option B) (g : B → C) (y : B) → (o >>= f) ≡ Some y
     → (o >>= λ x. f x >>= λ z. Some (g z)) ≡ Some (g y)
 bound_again None f g y h = absurd (cc)
 bound_again (Some x) f g y h = ap (λ (w : _). w >>= λ z. Some (g z)) h
 
--- The text of a line that a text in this version can have is read as this line.
 pub entry_again : (v : ℕ) (line : EntryLine) → IsEntryLine v line → entry_of v (entry_spelling v line) ≡ Some line
 unfolding entry_of
 entry_again v line t =
@@ -189,7 +180,6 @@ entry_again v line t =
 
 -- ---- The last line of a text
 
--- A text that is read as the last line is the text of this line, and its clock is below 2^62.
 pub end_spells : (text : List ℕ) (clock : ℕ) → end_of text ≡ Some clock → (clock < 2 ^ 62) × (text ≡ end_spelling clock)
 unfolding end_of
 end_spells text clock h =
@@ -204,19 +194,16 @@ end_spells text clock h =
     ))
     (λ h. absurd (cc))
 
--- The text of the last line with a clock below 2^62 is read as this line.
 pub end_again : (clock : ℕ) → clock < 2 ^ 62 → end_of (end_spelling clock) ≡ Some clock
 unfolding end_of
 end_again clock small = moment_form.again clock small
 
--- A text that is read as the last line isn't read as a line with an entry.
 pub end_apart : (v : ℕ) (text : List ℕ) (clock : ℕ) → end_of text ≡ Some clock → entry_of v text ≡ None
 unfolding entry_of
 end_apart v text clock h = ap (entry_of v) (end_spells text clock h).1
 
 -- ---- The first line of a text
 
--- The heading is read neither as a line with an entry nor as the last line.
 pub heading_apart : (v : ℕ) → (entry_of v heading ≡ None) × (end_of heading ≡ None)
 unfolding entry_of end_of
 heading_apart v = (refl, refl)

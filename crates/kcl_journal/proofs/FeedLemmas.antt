@@ -1,4 +1,4 @@
--- The text of no line of a journal contains a line feed.
+-- No line of a journal has a line feed in its text.
 use Rattle.std.proofs.Common.{◌≡◌, ℕ, ◌<◌, ◌^◌, List, [], ◌∷◌, ◌++◌, Bool, true, false, refl, arith, rules, codes}
 use Rattle.std.proofs.Common.{decimal}
 use Rattle.std.specs.Prelude.{◌==◌, not}
@@ -21,19 +21,16 @@ use Rattle.kcl_journal.specs.Entries.{switch_text}
 use Rattle.kcl_journal.specs.Ranges.{AreSizesBy, Is64, IsEntryLine, IsTellable}
 use Rattle.kcl_journal.proofs.TextForms.{hash_without, name_without}
 
--- Whether the byte `b` isn't a line feed.
+-- Whether the byte isn't a line feed.
 abbrev not_feed : ℕ → Bool
 not_feed b = not (b == 10)
 
--- If a test finds no line feed in a text, the text contains no line feed (`Lacks`).
 word : (text : List ℕ) → list_all not_feed text ≡ true → Lacks 10 text
 word text h = kind_lacks not_feed 10 text refl h
 
--- If a test finds no line feed in the text `a`, and `b` contains none, then `a` and `b` together contain none.
 after : (a b : List ℕ) → list_all not_feed a ≡ true → Lacks 10 b → Lacks 10 (a ++ b)
 after a b h l = lacks-append 10 a b (word a h) l
 
--- If two texts contain no line feed, the two with a space between them contain none.
 spaced : (a b : List ℕ) → Lacks 10 a → Lacks 10 b → Lacks 10 (a ++ 32 ∷ b)
 spaced a b l m = lacks-append 10 a (32 ∷ b) l (refl, m)
 
@@ -50,16 +47,16 @@ sizes false bytes key_bytes v =
     spaced (decimal bytes) (decimal key_bytes) (number bytes (omega (arith, v.1)))
     (number key_bytes (omega (arith, v.0.1)))
 
-switch : (on : Bool) → Lacks 10 (switch_text on)
+switch : (is_on : Bool) → Lacks 10 (switch_text is_on)
 switch true = word (codes "on") refl
 switch false = word (codes "off") refl
 
-from_text : (from : Origin) → IsOrigin from → Lacks 10 (origin_text from)
+from_text : (beginning : Origin) → IsOrigin beginning → Lacks 10 (origin_text beginning)
 from_text origin.TrimHorizon v = tt
 from_text origin.Latest v = word (codes " latest") refl
 from_text (origin.Time m) v = after (codes " time ") (decimal m) refl (number m (omega arith))
 
-target_lacks : (to : Target) → IsTarget to → Lacks 10 (target_text to)
+target_lacks : (goal : Target) → IsTarget goal → Lacks 10 (target_text goal)
 target_lacks target.End v = word (codes "end") refl
 target_lacks (target.At q) v = number q v
 
@@ -71,7 +68,6 @@ batch : (ns : List ℕ) → AllByRecursion Is64 ns → Lacks 10 (numbers_text ns
 batch [] v = tt
 batch (n ∷ ns) v = lacks-append 10 (32 ∷ decimal n) (numbers_text ns) (refl, number n v.0) (batch ns v.1)
 
--- The text of an entry contains no line feed.
 what_lacks : (v : ℕ) (e : Entry) → IsTellable v e → Lacks 10 (entry_text v e)
 what_lacks v (entry.Gone s) t = after (codes "gone ") _ refl (number s t)
 what_lacks v _ t = search (
@@ -90,12 +86,10 @@ what_lacks v _ t = search (
   lacks-append,
 )
 
--- The text of a line with an entry contains no line feed.
 pub entry_lacks : (v : ℕ) (line : EntryLine) → IsEntryLine v line → Lacks 10 (entry_spelling v line)
 entry_lacks v line t =
     spaced (decimal line.clock) _ (number line.clock (omega (arith, t.clock)))
     (spaced (decimal line.by) _ (number line.by (omega (arith, t.by))) (what_lacks v line.what t.what))
 
--- The text of the last line contains no line feed.
 pub end_lacks : (clock : ℕ) → clock < 2 ^ 62 → Lacks 10 (end_spelling clock)
 end_lacks clock small = after (codes "end ") (decimal clock) refl (number clock (omega arith))

@@ -1,6 +1,4 @@
--- Numbers in a range, hash keys, names, switches and the sizes of a put are read as they are written (`IsForm`): a text
--- that is read as a value is the text of this value, and the text of a value is read as this value. These texts contain
--- no space, so that they can be fields of a line.
+-- Round trips of numbers, hash keys, names, switches and sizes, whose texts have no space.
 use Rattle.std.proofs.Common.{◌≡◌, ℕ, ◌+◌, ◌<◌, ◌≤◌, ◌^◌, List, ◌∷◌, ◌++◌, Bool, true, false, Option, Some, None, refl}
 use Rattle.std.proofs.Common.{sym, ap, ◌∙◌, arith, codes, decimal, inl, inr, subst}
 use Rattle.std.proofs.lemmas.Grind.{common_steps}
@@ -25,7 +23,7 @@ use Rattle.kcl_journal.specs.Ranges.{AreSizesBy, Is64, IsHash}
 
 -- ---- Numbers in a range
 
--- The number `n` is from `least` to `most`, both included.
+-- The number is from `least` to `most`, both included.
 abbrev pub IsWithin : ℕ → ℕ → ℕ → Type 0
 IsWithin least most n = (least ≤ n) × (n ≤ most)
 
@@ -47,7 +45,6 @@ within_of_text least most (Some n) text m e h =
     let d = decimal_of_number text n e in
     (subst (λ (z : ℕ). IsWithin least most z) t.0 t.1, d.0 ∙ ap decimal t.0)
 
--- A number from `least` to `most` is read as it is written.
 pub within_form : (least most : ℕ) → most < 2 ^ 64 → IsForm (IsWithin least most) (within_of least most) decimal
 within_form least most small = record {
   spells = λ text m h. within_of_text least most (number_of 64 text) text m refl h;
@@ -55,42 +52,35 @@ within_form least most small = record {
       ∙ within_again least most m v;
 }
 
--- The text of a number from `least` to `most` contains no space.
 pub within_lacks : (least most : ℕ) → most < 2 ^ 64 → (n : ℕ) → IsWithin least most n → Lacks 32 (decimal n)
 within_lacks least most small n v = decimal_lacks 32 n refl (omega (arith, v.1, small))
 
--- The number can be a row's counter after a write: it is at least 1, and fits into 64 bits.
+-- The number can be a counter after a write: at least 1, and 64 bits.
 abbrev pub IsCounted : ℕ → Type 0
 IsCounted n = IsWithin 1 greatest64 n
 
--- A row's counter after a write is read as it is written.
 pub counter_form : IsForm IsCounted counter_of decimal
 counter_form = let f = within_form 1 greatest64 (omega arith) in record { spells = f.spells; again = f.again }
 
--- The text of a row's counter after a write contains no space.
 pub counter_lacks : (n : ℕ) → IsCounted n → Lacks 32 (decimal n)
 counter_lacks n v = within_lacks 1 greatest64 (omega arith) n v
 
--- The text of a number of 64 bits contains no space.
 pub number_lacks : (n : ℕ) → Is64 n → Lacks 32 (decimal n)
 number_lacks n v = decimal_lacks 32 n refl v
 
 -- ---- Hash keys
 
--- A hash key is read as it is written.
 pub hash_form : IsForm IsHash hash_of decimal
 hash_form = record {
   spells = λ text n h. (fits 128 n text h, spells 128 n text (omega arith) h);
   again = λ n v. reads 128 n (omega arith) v;
 }
 
--- The text of a hash key consists of digits, so it doesn't contain the byte `sep`, which isn't a digit.
 pub hash_without : (sep n : ℕ) → is_ascii_digit sep ≡ false → IsHash n → Lacks sep (decimal n)
 hash_without sep n other small =
     kind_lacks is_ascii_digit sep (decimal n) other
     (plain_digits (decimal n) (decimal_plain n (few_digits 128 n (omega arith) small))).0
 
--- The text of a hash key contains no space.
 pub hash_lacks : (n : ℕ) → IsHash n → Lacks 32 (decimal n)
 hash_lacks n small = hash_without 32 n refl small
 
@@ -104,40 +94,37 @@ name_is true text name c h = let same : text ≡ name = cc in (subst (λ (z : Li
 name_again : (name : List ℕ) → IsName name → name_of name ≡ Some name
 name_again name v = rw v refl
 
--- The text of a name, which is the name itself.
+-- A name is its own text.
 abbrev pub same_text : List ℕ → List ℕ
 same_text name = name
 
--- A name is read as it is written.
 pub name_form : IsForm IsName name_of same_text
 name_form = record { spells = λ text name h. name_is (is_name text) text name refl h; again = name_again }
 
--- A name doesn't contain the byte `sep`, which isn't one that a name may have.
 pub name_without : (sep : ℕ) (name : List ℕ) → is_name_byte sep ≡ false → IsName name → Lacks sep name
 name_without sep name other v = kind_lacks is_name_byte sep name other (and_parts _ _ v).1
 
--- A name contains no space.
 pub name_lacks : (name : List ℕ) → IsName name → Lacks 32 name
 name_lacks name v = name_without 32 name refl v
 
 -- ---- Switches: `on` and `off`
 
--- Each Boolean has a text as a switch.
+-- Each Bool has a text as a switch.
 abbrev pub IsSwitch : Bool → Type 0
-IsSwitch on = Unit {0}
+IsSwitch is_on = Unit {0}
 
-switch_spells : (text : List ℕ) (on : Bool) → switch_of text ≡ Some on → IsSwitch on × (text ≡ switch_text on)
-switch_spells text on h = choose (bytes_eq text (codes "on")) _ _ on h
-    (λ same e. let is : true ≡ on = cc in (tt, (bytes_eq-Decides text (codes "on")).0 same ∙ ap switch_text is))
-    (λ h. choose (bytes_eq text (codes "off")) _ _ on h
-    (λ same e. let is : false ≡ on = cc in (tt, (bytes_eq-Decides text (codes "off")).0 same ∙ ap switch_text is))
+switch_spells : (text : List ℕ) (is_on : Bool) → switch_of text ≡ Some is_on → IsSwitch is_on
+    × (text ≡ switch_text is_on)
+switch_spells text is_on h = choose (bytes_eq text (codes "on")) _ _ is_on h
+    (λ same e. let is : true ≡ is_on = cc in (tt, (bytes_eq-Decides text (codes "on")).0 same ∙ ap switch_text is))
+    (λ h. choose (bytes_eq text (codes "off")) _ _ is_on h
+    (λ same e. let is : false ≡ is_on = cc in (tt, (bytes_eq-Decides text (codes "off")).0 same ∙ ap switch_text is))
     (λ h. absurd (cc)))
 
-switch_again : (on : Bool) → IsSwitch on → switch_of (switch_text on) ≡ Some on
+switch_again : (is_on : Bool) → IsSwitch is_on → switch_of (switch_text is_on) ≡ Some is_on
 switch_again true v = refl
 switch_again false v = refl
 
--- A switch is read as it is written.
 pub switch_form : IsForm IsSwitch switch_of switch_text
 switch_form = record { spells = switch_spells; again = switch_again }
 
@@ -185,7 +172,7 @@ sizes_again true p v =
 sizes_again false p v = ap (option_and_then fitting) (both_form.again p ((omega arith, omega (arith, v.1)), v.0))
     ∙ fitting_again p v.1
 
--- The sizes of a put are read as they are written. `first` says whether the text is one of the first version.
+-- A round trip of a put's sizes; `first` is for the first version.
 pub sizes_form : (first : Bool)
     → IsForm (λ (p : ℕ × ℕ). AreSizesBy first p.0 p.1) (sizes_by first) (sizes_text_by first)
 sizes_form first = record { spells = sizes_spell first; again = sizes_again first }

@@ -1,4 +1,4 @@
--- The words of a text, which are its parts between single spaces, and the batch of a read, which is a list of words.
+-- The words of a text, between single spaces, and the batch of a read as a list of words.
 use Rattle.std.proofs.Common.{◌≡◌, ℕ, ◌<◌, List, [], ◌∷◌, ◌++◌, length, map, arith, Bool, true, false, Option, Some}
 use Rattle.std.proofs.Common.{None, refl, sym, ap, ◌∙◌, codes, decimal, subst}
 use Rattle.std.proofs.lemmas.List.{append_assoc, append-nil, length-append}
@@ -14,18 +14,15 @@ use Rattle.kcl_script_fields.proofs.RawLemmas.{choose}
 use Rattle.kcl_journal.specs.Ranges.{Is64}
 use Rattle.kcl_journal.specs.Entries.{words, numbers_of, ended_of, ended_text, numbers_text, batch_from, batch_of}
 
--- If `a` contains no space, the words of `a`, a space and `b` are `a` and the words of `b`.
 pub words_found : (a b : List ℕ) → Lacks 32 a → words (a ++ 32 ∷ b) ≡ a ∷ words b
 words_found [] b n = refl
 words_found (x ∷ a) b n = rw (n.0, words_found a b n.1) refl
 
--- A text without a space is its only word.
 pub words_whole : (a : List ℕ) → Lacks 32 a → words a ≡ a ∷ []
 words_whole [] n = refl
 words_whole (x ∷ a) n = rw (n.0, words_whole a n.1) refl
 
--- `o` has the parts of a text before and after its first space. The result has the parts of the text with the byte `b`,
--- which isn't a space, in front. If the text has no space, both are None.
+-- The two parts with a further byte, not a space, in front.
 abbrev onto : ℕ → Option (List ℕ × List ℕ) → Option (List ℕ × List ℕ)
 onto b o = option_map (λ (q : List ℕ × List ℕ). let p : List ℕ × List ℕ = (b ∷ q.0, q.1) in p) o
 
@@ -40,18 +37,15 @@ nowhere_cases : (c : Bool) (b : ℕ) (bs : List ℕ) → (b == 32) ≡ c → (pa
 nowhere_cases true b bs c f h = absurd (cc)
 nowhere_cases false b bs c f h = (c, f (nowhere_rest b (parted 32 bs) h))
 
--- If a text has no first space, it contains no space.
 pub nowhere_lacks : (text : List ℕ) → parted 32 text ≡ None → Lacks 32 text
 nowhere_lacks [] h = tt
 nowhere_lacks (b ∷ bs) h = nowhere_cases (b == 32) b bs refl (nowhere_lacks bs) h
 
--- If a text has a first space, its words are the part before this space and the words of the part after it.
 pub words_parted : (text : List ℕ) (p : List ℕ × List ℕ) → parted 32 text ≡ Some p → words text ≡ p.0 ∷ words p.1
 words_parted text p h =
     let s = parted_spells 32 text p h in
     ap words s.0 ∙ words_found p.0 p.1 s.1
 
--- If a text has no first space, it is its only word.
 pub words_nowhere : (text : List ℕ) → parted 32 text ≡ None → words text ≡ text ∷ []
 words_nowhere text h = words_whole text (nowhere_lacks text h)
 
@@ -103,11 +97,11 @@ parted_words w (n ∷ ns) l v =
     words_found w (decimal n ++ numbers_text ns) l
     ∙ ap (λ z. w ∷ z) (parted_words (decimal n) ns (decimal_lacks 32 n refl v.0) v.1)
 
--- The sequence numbers of the batch fit into 64 bits each.
+-- The batch's sequence numbers fit into 64 bits.
 abbrev pub IsBatch : Bool × List ℕ → Type 0
 IsBatch a = AllByRecursion Is64 a.1
 
--- The text of a batch: whether the read ended the shard, and then the sequence numbers.
+-- A batch's text: `end` or `more`, then the sequence numbers.
 abbrev pub batch_text : Bool × List ℕ → List ℕ
 batch_text a = ended_text a.0 ++ numbers_text a.1
 
@@ -125,7 +119,6 @@ spelled_from (w ∷ ws) text a j h =
           ∙ joined (ended_text e.0) m.0,
     )
 
--- The batch of a read is read as it is written.
 pub batch_form : IsForm IsBatch batch_of batch_text
 batch_form = record {
   spells = λ text a h. spelled_from (words text) text a (join_with_byte-slice_split 32 text) h;
@@ -135,8 +128,7 @@ batch_form = record {
 
 -- ---- The words as a loop finds them, one after another
 
--- The numbers `ns` that were read so far, followed by the numbers `o` of the other words. If `o` is None, since another
--- word isn't a number, the result is None.
+-- The numbers so far before the others, or None if another word isn't a number.
 abbrev pub with_front : List ℕ → Option (List ℕ) → Option (List ℕ)
 with_front ns o = option_map (λ ms. ns ++ ms) o
 
@@ -145,29 +137,24 @@ fronts : (ns : List ℕ) (n : ℕ) (o : Option (List ℕ)) → with_front ns (op
 fronts ns n None = refl
 fronts ns n (Some ms) = ap (λ z. Some z) (sym (append_assoc ns (n ∷ []) ms))
 
--- If the next word of the text is the number `n`, the list of all numbers is the same whether `n` counts as read or
--- still to be read.
+-- A number may count as read or as still to be read.
 pub more_numbers : (ns : List ℕ) (n : ℕ) (text : List ℕ) (p : List ℕ × List ℕ) → parted 32 text ≡ Some p
     → number p.0 ≡ Some n
     → with_front ns (numbers_of (words text)) ≡ with_front (ns ++ n ∷ []) (numbers_of (words p.1))
 more_numbers ns n text p h is = rw (words_parted text p h, is) (fronts ns n (numbers_of (words p.1)))
 
--- If the next word of the text isn't a number, the text has no list of numbers.
 pub no_numbers : (ns : List ℕ) (text : List ℕ) (p : List ℕ × List ℕ) → parted 32 text ≡ Some p → number p.0 ≡ None
     → with_front ns (numbers_of (words text)) ≡ None
 no_numbers ns text p h is = rw (words_parted text p h, is) refl
 
--- If the text is one last word, the number `n`, then all numbers are those read so far and `n`.
 pub last_number : (ns : List ℕ) (n : ℕ) (text : List ℕ) → parted 32 text ≡ None → number text ≡ Some n
     → with_front ns (numbers_of (words text)) ≡ Some (ns ++ n ∷ [])
 last_number ns n text h is = rw (words_nowhere text h, is) refl
 
--- If the text is one last word that isn't a number, the text has no list of numbers.
 pub no_last : (ns : List ℕ) (text : List ℕ) → parted 32 text ≡ None → number text ≡ None
     → with_front ns (numbers_of (words text)) ≡ None
 no_last ns text h is = rw (words_nowhere text h, is) refl
 
--- The part of a text after its first space is shorter than the text.
 pub shorter : (text : List ℕ) (p : List ℕ × List ℕ) → parted 32 text ≡ Some p → length p.1 < length text
 shorter text p h =
     let s = parted_spells 32 text p h in
@@ -175,20 +162,15 @@ shorter text p h =
 
 -- ---- A batch, given its first word
 
--- If the text is one word that says whether the read ended the shard, its batch has no numbers. If the one word doesn't
--- say this, there is no batch.
 pub batch_alone : (text : List ℕ) (o : Option Bool) → parted 32 text ≡ None → ended_of text ≡ o
     → batch_of text ≡ option_map (λ (b : Bool). let a : Bool × List ℕ = (b, []) in a) o
 batch_alone text None h e = rw (words_nowhere text h, e) refl
 batch_alone text (Some b) h e = rw (words_nowhere text h, e) refl
 
--- If the first word of the text doesn't say whether the read ended the shard, the text has no batch.
 pub batch_unended : (text : List ℕ) (p : List ℕ × List ℕ) → parted 32 text ≡ Some p → ended_of p.0 ≡ None
     → batch_of text ≡ None
 batch_unended text p h e = rw (words_parted text p h, e) refl
 
--- If the first word of the text says whether the read ended the shard (`ended`), the batch of the text is `ended` with
--- the numbers of the other words. It is None if one of these isn't a number.
 pub batch_parts : (text : List ℕ) (p : List ℕ × List ℕ) (ended : Bool) (o : Option (List ℕ)) → parted 32 text ≡ Some p
     → ended_of p.0 ≡ Some ended → numbers_of (words p.1) ≡ o
     → batch_of text ≡ option_map (λ (ns : List ℕ). let a : Bool × List ℕ = (ended, ns) in a) o

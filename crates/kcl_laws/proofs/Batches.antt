@@ -1,12 +1,11 @@
--- The sequence numbers of a shard's records rise. A batch that is read at a position has all untrimmed records from
--- this position up to the position after the batch. In this file, the number of a record is its sequence number.
+-- Sequence numbers of a shard rise, and a batch has all untrimmed records up to the position after it.
 use Rattle.std.proofs.Common.{◌≡◌, ℕ, zero, suc, ◌+◌, ◌-◌, ◌<◌, ◌≤◌, Bool, true, false, List, [], ◌∷◌, ◌++◌, Some, refl}
 use Rattle.std.proofs.Common.{sym, ap, subst, ◌∙◌, arith, inl, inr}
 use Rattle.std.specs.Prelude.{◌==◌, ◌&&◌, ◌||◌, ◌⊎◌, not, nat_le, nat_lt, cond, if◌then◌else◌}
 use Rattle.std.specs.List.{AllByRecursion, filter}
 use Rattle.std.proofs.lemmas.Bool.Decides.{nat_tests}
 use Rattle.std.proofs.lemmas.Bool.{and_parts}
-use Rattle.kds_base.proofs.Facts.{apart, equal_so}
+use Rattle.kds_base.proofs.Facts.{apart, equal_so, all_weaker}
 use Rattle.kds_defs.specs.declared.entry.Entry.{Entry}
 use Rattle.kds_defs.specs.declared.entry.Entry.TheVariants as entry
 use Rattle.kds_defs.specs.declared.limits.TheConstants.{BATCH_BYTES}
@@ -22,19 +21,6 @@ use Rattle.kcl_laws.proofs.Numbering.{all_placed}
 
 -- ---- All items of a list
 
--- If `P` implies `Q`, and `P` holds of all items of a list, then `Q` holds of all these items.
-pub all_map : {A : Type 0} (P Q : A → Type 0) (xs : List A) → ((x : A) → P x → Q x) → AllByRecursion P xs
-    → AllByRecursion Q xs
-all_map P Q [] f h = tt
-all_map P Q (x ∷ xs) f h = (f x h.0, all_map P Q xs f h.1)
-
--- If `P` and `Q` together imply `R`, and both hold of all items of a list, then `R` holds of all these items.
-pub all_both : {A : Type 0} (P Q R : A → Type 0) (xs : List A) → ((x : A) → P x → Q x → R x) → AllByRecursion P xs
-    → AllByRecursion Q xs → AllByRecursion R xs
-all_both P Q R [] f h g = tt
-all_both P Q R (x ∷ xs) f h g = (f x h.0 g.0, all_both P Q R xs f h.1 g.1)
-
--- If `P` holds of all items of a list and of `y`, then `P` holds of all items of the list with `y` at its end.
 pub all_push : {A : Type 0} (P : A → Type 0) (xs : List A) (y : A) → AllByRecursion P xs → P y
     → AllByRecursion P (xs ++ (y ∷ []))
 all_push P [] y h g = (g, tt)
@@ -46,7 +32,6 @@ filter_head : {A : Type 0} (f : A → Bool) (P : A → Type 0) (x : A) (xs : Lis
 filter_head f P x xs true is rest h = (λ e. h.0, rest h.1)
 filter_head f P x xs false is rest h = (λ e. absurd (apart (f x) e is), rest h)
 
--- If `P` holds of all items of `filter f xs`, then `P` holds of each item of `xs` for which `f` is true.
 pub all_filter : {A : Type 0} (f : A → Bool) (P : A → Type 0) (xs : List A) → AllByRecursion P (filter f xs)
     → AllByRecursion (λ x. f x ≡ true → P x) xs
 all_filter f P [] h = tt
@@ -58,7 +43,6 @@ none_head : {A : Type 0} (f : A → Bool) (x : A) (xs : List A) (b : Bool) → f
 none_head f x xs true is rest h = absurd cc
 none_head f x xs false is rest h = (is, rest h)
 
--- If `filter f xs` is empty, then `f` is false for all items of `xs`.
 pub none_pass : {A : Type 0} (f : A → Bool) (xs : List A) → are_none (filter f xs) ≡ true
     → AllByRecursion (λ y. f y ≡ false) xs
 none_pass f [] h = tt
@@ -66,29 +50,23 @@ none_pass f (x ∷ xs) h = none_head f x xs (f x) refl (none_pass f xs) h
 
 -- ---- Rising records
 
--- The sequence numbers of the records rise strictly, are at or above `p`, and are below `q`. If there are no records,
--- `p` is at most `q`.
+-- The sequence numbers rise strictly, from `p` on and below `q`; without records, `p` is at most `q`.
 abbrev pub IsRising : ℕ → List Logged → ℕ → Type 0
 IsRising p [] q = p ≤ q
 IsRising p (r ∷ rs) q = (p ≤ r.seq) × IsRising (r.seq + 1) rs q
 
--- If the numbers of records rise from `p` and stay below `q`, `p` is at most `q`.
 pub rising_le : (p : ℕ) (rs : List Logged) (q : ℕ) → IsRising p rs q → p ≤ q
 rising_le p [] q h = h
 rising_le p (r ∷ rs) q h = omega (arith, h.0, rising_le (r.seq + 1) rs q h.1)
 
--- If the numbers of records rise from `p` and stay below `q`, they also stay below each greater number `q'`.
 pub rising_above : (p : ℕ) (rs : List Logged) (q q' : ℕ) → q ≤ q' → IsRising p rs q → IsRising p rs q'
 rising_above p [] q q' le h = omega arith
 rising_above p (r ∷ rs) q q' le h = (h.0, rising_above (r.seq + 1) rs q q' le h.1)
 
--- If the numbers of records rise from `p'`, they also rise from each smaller number `p`.
 pub rising_below : (p p' : ℕ) (rs : List Logged) (q : ℕ) → p ≤ p' → IsRising p' rs q → IsRising p rs q
 rising_below p p' [] q le h = omega arith
 rising_below p p' (r ∷ rs) q le h = (omega (arith, h.0), h.1)
 
--- Let the numbers of the records `rs` rise from `p` and stay below `q`. If a record with the number `q` is added at the
--- end, the numbers rise from `p` and stay below `q + 1`.
 pub rising_push : (p : ℕ) (rs : List Logged) (q : ℕ) (r : Logged) → IsRising p rs q → r.seq ≡ q
     → IsRising p (rs ++ (r ∷ [])) (q + 1)
 rising_push p [] q r h e = (omega arith, omega arith)
@@ -99,8 +77,6 @@ rising_cond : (b : Bool) (p : ℕ) (r : Logged) (rs : List Logged) (q : ℕ) →
 rising_cond true p r rs q le h = (le, h)
 rising_cond false p r rs q le h = rising_below p (r.seq + 1) rs q (omega arith) h
 
--- If the numbers of the records `rs` rise from `p` and stay below `q`, so do the numbers of those records for which `f`
--- is true.
 pub rising_filter : (f : Logged → Bool) (p : ℕ) (rs : List Logged) (q : ℕ) → IsRising p rs q
     → IsRising p (filter f rs) q
 rising_filter f p [] q h = h
@@ -112,9 +88,6 @@ from_cond : (f : Logged → Bool) (b : Bool) (m : ℕ) (r : Logged) (rs : List L
 from_cond f true m r rs q is g h k = (g r is, h)
 from_cond f false m r rs q is g h k = k
 
--- Let the numbers of the records `rs` rise and stay below `q`, let `m` be at most `q`, and let `f` be true only for
--- records with a number at or above `m`. Then the numbers of the records of `rs` for which `f` is true rise from `m`
--- and stay below `q`.
 pub rising_filter_from : (f : Logged → Bool) (p m : ℕ) (rs : List Logged) (q : ℕ) → IsRising p rs q → m ≤ q
     → ((x : Logged) → f x ≡ true → m ≤ x.seq) → IsRising m (filter f rs) q
 rising_filter_from f p m [] q h le g = le
@@ -124,30 +97,25 @@ rising_filter_from f p m (r ∷ rs) q h le g =
 
 -- ---- The numbers of a prefix of rising records
 
--- The sequence numbers of the longest prefix of the records `rs` that has at most `limit` records and at most `room`
--- bytes.
+-- The sequence numbers of the longest prefix within `limit` records and `room` bytes.
 abbrev pub taken_numbers : ℕ → ℕ → List Logged → List ℕ
 taken_numbers limit room rs = numbers_of (beginning limit room rs)
 
--- The numbers rise strictly, are at or above `p`, and are below `q`. If there are no numbers, `p` is at most `q`.
+-- The numbers rise strictly, from `p` on and below `q`; without numbers, `p` is at most `q`.
 abbrev pub RisesTo : ℕ → List ℕ → ℕ → Type 0
 RisesTo p [] q = p ≤ q
 RisesTo p (n ∷ ns) q = (p ≤ n) × RisesTo (n + 1) ns q
 
--- Let the numbers `ms` rise from `p` and stay below `q`, and let the numbers `ns` rise from `q` and stay below `r`.
--- Then `ms ++ ns` rises from `p` and stays below `r`.
 pub rises_append : (p : ℕ) (ms ns : List ℕ) (q r : ℕ) → RisesTo p ms q → RisesTo q ns r → RisesTo p (ms ++ ns) r
 rises_append p [] [] q r h g = omega arith
 rises_append p [] (n ∷ ns) q r h g = (omega (arith, h, g.0), g.1)
 rises_append p (m ∷ ms) ns q r h g = (h.0, rises_append (m + 1) ms ns q r h.1 g)
 
--- If numbers rise from `p` and stay below `q`, they rise strictly from `p` on (`RiseFrom`).
 pub rises_from : (p : ℕ) (ns : List ℕ) (q : ℕ) → RisesTo p ns q → RiseFrom p ns
 rises_from p [] q h = tt
 rises_from p (n ∷ ns) q h = (h.0, rises_from (n + 1) ns q h.1)
 
--- The numbers `ns` rise from `p` on, and the position after them is at or above `p` and at most `q`. Each record of
--- `rs` whose number is below this position has its number in `ns`.
+-- The numbers rise from `p` up to a position of at most `q`, and include each record of `rs` below that position.
 pub record Begins (p : ℕ) (ns : List ℕ) (rs : List Logged) (q : ℕ) : Type 0 where
   pub rises : RisesTo p ns (position_after p ns)
   pub position : position_after p ns ≤ q
@@ -180,14 +148,12 @@ begin_cond true p r ns bs rs q le h is rest =
       from = omega (arith, le, rest.from);
       has = (
         λ below. inl refl,
-        all_map (λ (x : Logged). x.seq < position_after (r.seq + 1) ns
-            → IsAmong x.seq ns) (λ (x : Logged). x.seq < position_after p (r.seq ∷ ns) → IsAmong x.seq (r.seq ∷ ns)) rs
-            (λ x g below. inr (g below)) rest.has,
+        all_weaker (λ (x : Logged). x.seq < position_after (r.seq + 1) ns
+            → IsAmong x.seq ns) (λ (x : Logged). x.seq < position_after p (r.seq ∷ ns)
+            → IsAmong x.seq (r.seq ∷ ns)) (λ x g below. inr (g below)) rs rest.has,
       );
     })
 
--- Let the numbers of the records `rs` rise from `p` and stay below `q`. Then the longest prefix of `rs` within `limit`
--- records and `room` bytes has each record of `rs` below the position after this prefix (`Begins`).
 pub begins : (limit room p : ℕ) (rs : List Logged) (q : ℕ) → IsRising p rs q
     → Begins p (taken_numbers limit room rs) rs q
 begins zero room p rs q h = nothing_begins p rs q h
@@ -198,8 +164,7 @@ begins (suc limit) room p (r ∷ rs) q h =
 
 -- ---- One more line
 
--- One more line either leaves the records of shard `sh` of stream `s` unchanged, or adds one record at their end. A new
--- record has the stream's next sequence number, and its shard is open.
+-- One more line leaves the records of a shard unchanged, or adds one with the stream's next sequence number.
 pub data RecordsStep (log : Journal) (line : Line) (s sh : ℕ) : Type 0 where
   SameRecords : records (line ∷ log) s sh ≡ records log s sh → RecordsStep log line s sh
   NewRecord : (r : Logged) (x : ShardState) → records (line ∷ log) s sh ≡ records log s sh ++ (r ∷ [])
@@ -213,17 +178,17 @@ records_step_put : (log : Journal) (line : Line) (stream shard number hash bytes
     → ((if b then records log s sh ++ (r ∷ []) else records log s sh) ≡ records (line ∷ log) s sh)
     → (next_number (line ∷ log) s ≡ (if stream == s then 1 else 0) + next_number log s)
     → RecordsStep log line s sh
-records_step_put log line stream shard number hash bytes key_bytes s sh at false is r num recs next =
+records_step_put log line stream shard number hash bytes key_bytes s sh is_at false is r num recs next =
     SameRecords (sym recs)
-records_step_put log line stream shard number hash bytes key_bytes s sh at true is r num recs next =
+records_step_put log line stream shard number hash bytes key_bytes s sh is_at true is r num recs next =
     let two = and_parts (stream == s) (shard == sh) is in
-    let to = equal_so stream s two.0 in
-    let to' = equal_so shard sh two.1 in
-    let n : number ≡ next_number log s = at.1 ∙ ap (next_number log) to in
-    NewRecord r at.0.state (sym recs) (num ∙ n)
+    let target = equal_so stream s two.0 in
+    let target' = equal_so shard sh two.1 in
+    let n : number ≡ next_number log s = is_at.1 ∙ ap (next_number log) target in
+    NewRecord r is_at.0.state (sym recs) (num ∙ n)
     (next ∙ plus_one (stream == s) two.0 (next_number log s) ∙ ap (λ k. k + 1) (sym (num ∙ n)))
-    (ap (λ k. shard_at log k sh) (sym to) ∙ ap (shard_at log stream) (sym to') ∙ at.0.made)
-    at.0.is_open_now
+    (ap (λ k. shard_at log k sh) (sym target) ∙ ap (shard_at log stream) (sym target') ∙ is_at.0.made)
+    is_at.0.is_open_now
   where
     plus_one : (b : Bool) → b ≡ true → (n : ℕ) → (if b then 1 else 0) + n ≡ n + 1
     plus_one true h n = omega arith
@@ -232,8 +197,8 @@ records_step_put log line stream shard number hash bytes key_bytes s sh at true 
 records_step_by : (log : Journal) (line : Line) (e : Entry) (s sh : ℕ) → IsPlaced log e
     → records_after line e s sh (records log s sh) ≡ records (line ∷ log) s sh
     → next_number (line ∷ log) s ≡ draws e s + next_number log s → RecordsStep log line s sh
-records_step_by log line (entry.Put stream shard number hash bytes key_bytes) s sh at recs next =
-    records_step_put log line stream shard number hash bytes key_bytes s sh at _ refl
+records_step_by log line (entry.Put stream shard number hash bytes key_bytes) s sh is_at recs next =
+    records_step_put log line stream shard number hash bytes key_bytes s sh is_at _ refl
     (record {
       seq = number;
       arrival = line.clock;
@@ -241,10 +206,9 @@ records_step_by log line (entry.Put stream shard number hash bytes key_bytes) s 
       key = line.key;
       payload = line.payload;
     }) refl recs next
-records_step_by log line _ s sh at recs next = SameRecords (sym recs)
+records_step_by log line _ s sh is_at recs next = SameRecords (sym recs)
 
--- In a legal journal, one more line leaves the records of a shard unchanged, or adds one record with the stream's next
--- sequence number to an open shard (`RecordsStep`).
+-- In a legal journal, one more line leaves a shard's records unchanged or adds one to an open shard.
 pub records_step : (log : Journal) (line : Line) → IsLegal (line ∷ log) → (s sh : ℕ) → RecordsStep log line s sh
 records_step log line legal s sh = records_step_by log line line.what s sh (all_placed (line ∷ log) legal).0 refl refl
 
@@ -259,22 +223,18 @@ rising_by log line s sh (NewRecord r x is seq next there open_now) h =
     (subst (IsRising 1 (records log s sh ++ (r ∷ []))) (ap (λ k. k + 1) (sym seq) ∙ sym next)
     (rising_push 1 _ (next_number log s) r h seq))
 
--- In a legal journal, the numbers of a shard's records rise strictly from 1 on, and are below the stream's next
--- sequence number.
+-- In a legal journal, a shard's sequence numbers rise from 1 on and stay below the stream's next one.
 pub rising : (log : Journal) → IsLegal log → (s sh : ℕ) → IsRising 1 (records log s sh) (next_number log s)
 rising [] legal s sh = omega arith
 rising (line ∷ log) legal s sh = rising_by log line s sh (records_step log line legal s sh) (rising log legal.1 s sh)
 
 -- ---- A batch
 
--- The number of the record `r` is below `position`, where the read begins, or is one of the numbers `ns`; or the record
--- is trimmed at the clock `c`.
+-- The record is below `position`, one of the numbers, or trimmed.
 abbrev pub IsTaken : Journal → ℕ → ℕ → ℕ → List ℕ → Logged → Type 0
 IsTaken log c s position ns r = (r.seq < position) ⊎ (IsAmong r.seq ns ⊎ (is_trimmed log c s r.arrival ≡ true))
 
--- The numbers `ns` rise from `position` on, and the position after them is at least `position` and at most the stream's
--- next sequence number. Each record of the shard whose number is below the position after `ns` has its number in `ns`,
--- is trimmed, or is below `position`.
+-- The numbers of a batch: each untrimmed record from `position` up to the position after them is included.
 pub record IsBatch (log : Journal) (c s sh position : ℕ) (ns : List ℕ) : Type 0 where
   pub rises : RisesTo position ns (position_after position ns)
   pub next : position_after position ns ≤ next_number log s
@@ -285,17 +245,13 @@ passes_above : (t : Bool) (p n : ℕ) → (not t && nat_le p n) ≡ true → p �
 passes_above true p n h = absurd cc
 passes_above false p n h = grind (arith, nat_tests)
 
--- If the number of the record `r` is below the position after `ns`, then the number is below `position` or in `ns`, or
--- `r` is trimmed (`IsTaken`). The premise is that the number is in `ns` if `r` is untrimmed and at or above `position`.
--- `t` says whether `r` is trimmed, and `b` whether its number is at or above `position`.
 taken_or : (log : Journal) (c s position : ℕ) (ns : List ℕ) (r : Logged) (t : Bool) → is_trimmed log c s r.arrival ≡ t
     → ((not t && nat_le position r.seq) ≡ true → r.seq < position_after position ns → IsAmong r.seq ns) → (b : Bool)
     → nat_le position r.seq ≡ b → r.seq < position_after position ns → IsTaken log c s position ns r
-taken_or log c s position ns r true is g b at below = inr (inr is)
-taken_or log c s position ns r false is g true at below = inr (inl (g at below))
-taken_or log c s position ns r false is g false at below = inl (grind (arith, nat_tests))
+taken_or log c s position ns r true is g b is_at below = inr (inr is)
+taken_or log c s position ns r false is g true is_at below = inr (inl (g is_at below))
+taken_or log c s position ns r false is g false is_at below = inl (grind (arith, nat_tests))
 
--- No record is left by a filter whose test is always false.
 none_passes : (rs : List Logged) → filter (λ (r : Logged). false) rs ≡ []
 none_passes [] = refl
 none_passes (r ∷ rs) = none_passes rs
@@ -306,17 +262,13 @@ left_if : (b : Bool) (floor position : ℕ) (rs : List Logged)
 left_if true floor position rs = refl
 left_if false floor position rs = sym (none_passes rs)
 
--- The records that are left for a read at `position` (`left_from`) are those of the shard that aren't trimmed and have
--- a number at or above `position`.
 pub left_is : (log : Journal) (c s sh position : ℕ)
     → left_from log c s sh position
     ≡ filter (λ (r : Logged). not (is_trimmed log c s r.arrival) && nat_le position r.seq)
     (records log s sh)
 left_is log c s sh position = left_if (is_live log s) (trim_floor log c s) position (records log s sh)
 
--- In a legal journal, let `position` be at most the stream's next sequence number. Then the batch that a read at
--- `position` returns has each untrimmed record of the shard from `position` up to the position after the batch
--- (`IsBatch`).
+-- A batch in a legal journal leaves out no untrimmed record between its positions.
 pub batch_is : (log : Journal) → IsLegal log → (c s sh position limit : ℕ) → position ≤ next_number log s
     → IsBatch log c s sh position (numbers_of (batch log c s sh position limit))
 batch_is log legal c s sh position limit le =
@@ -330,25 +282,22 @@ batch_is log legal c s sh position limit le =
       rises = b.rises;
       next = b.position;
       from = b.from;
-      has = all_map (λ (r : Logged). f r ≡ true → r.seq < position_after position ns
+      has = all_weaker (λ (r : Logged). f r ≡ true → r.seq < position_after position ns
           → IsAmong r.seq ns) (λ (r : Logged). r.seq < position_after position ns
-          → IsTaken log c s position ns r) (records log s sh)
+          → IsTaken log c s position ns r)
           (λ r g below. taken_or log c s position ns r (is_trimmed log c s r.arrival) refl g (nat_le position r.seq)
-          refl below)
+          refl below) (records log s sh)
           (all_filter f (λ (r : Logged). r.seq < position_after position ns → IsAmong r.seq ns) (records log s sh)
           b.has);
     } in
     subst (λ (rs : List Logged). IsBatch log c s sh position (numbers_of (beginning limit BATCH_BYTES rs)))
     (sym (left_is log c s sh position)) taken
 
--- A record that isn't both untrimmed and at or above `position` is below `position` or trimmed. `t` says whether the
--- record is trimmed.
 below_or : (log : Journal) (c s position : ℕ) (r : Logged) (t : Bool) → is_trimmed log c s r.arrival ≡ t
     → (not t && nat_le position r.seq) ≡ false → (r.seq < position) ⊎ (is_trimmed log c s r.arrival ≡ true)
 below_or log c s position r true is h = inr is
 below_or log c s position r false is h = inl (grind (arith, nat_tests))
 
--- If the shard ends at `position`, it is closed, and each of its records is below `position` or trimmed.
 pub end_is : (log : Journal) (c s sh position : ℕ) → ends_at log c s sh position ≡ true
     → (is_closed_at (shard_at log s sh) ≡ true)
     × AllByRecursion (λ r. (r.seq < position) ⊎ (is_trimmed log c s r.arrival ≡ true)) (records log s sh)
@@ -356,8 +305,8 @@ end_is log c s sh position h =
     let two = and_parts (is_closed_at (shard_at log s sh)) (are_none (left_from log c s sh position)) h in
     let f : Logged → Bool = λ r. not (is_trimmed log c s r.arrival) && nat_le position r.seq in (
       two.0,
-      all_map (λ (r : Logged). f r ≡ false) (λ (r : Logged). (r.seq < position) ⊎ (is_trimmed log c s r.arrival ≡ true))
-          (records log s sh)
-          (λ r g. below_or log c s position r (is_trimmed log c s r.arrival) refl g)
+      all_weaker (λ (r : Logged). f r ≡ false) (λ (r : Logged). (r.seq < position)
+          ⊎ (is_trimmed log c s r.arrival ≡ true))
+          (λ r g. below_or log c s position r (is_trimmed log c s r.arrival) refl g) (records log s sh)
           (none_pass f (records log s sh) (ap are_none (sym (left_is log c s sh position)) ∙ two.1)),
     )

@@ -1,15 +1,13 @@
--- If a row whose origin is the trim horizon has its checkpoint at a sequence number, the row's shard has a record with
--- this number or a greater one. Here a position is reached if it isn't beyond all records of the shard: it is 0, or at
--- most one above the number of a record.
+-- A checkpoint of a row with the origin trim horizon is at most the sequence number of some record of the shard.
 use Rattle.std.proofs.Common.{◌≡◌, ℕ, zero, suc, ◌+◌, ◌-◌, ◌≤◌, Bool, true, false, List, [], ◌∷◌, ◌++◌, length, take}
 use Rattle.std.proofs.Common.{Option, Some, None, refl, sym, ap, subst, ◌∙◌, arith, inl, inr}
-use Rattle.std.specs.Prelude.{◌⊎◌, nat_le, cond, if◌then◌else◌}
-use Rattle.std.specs.List.{AllByRecursion, filter}
+use Rattle.std.specs.Prelude.{◌⊎◌, nat_le, if◌then◌else◌}
+use Rattle.std.specs.List.{AllByRecursion}
+use Rattle.std.proofs.lemmas.Option.{same_Some}
 use Rattle.kds_base.specs.declared.lease_key.Checkpoint.{Checkpoint}
 use Rattle.kds_base.specs.declared.lease_key.Checkpoint.TheVariants.{TrimHorizon, At}
 use Rattle.kds_base.specs.declared.lease_key.ShardRef.{ShardRef}
-use Rattle.kds_base.proofs.Facts.{same_some}
-use Rattle.kds_defs.specs.declared.command.Origin.{Origin}
+use Rattle.kds_base.proofs.Facts.{all_weaker, all_filter}
 use Rattle.kds_defs.specs.declared.command.Origin.TheVariants as origin
 use Rattle.kds_defs.specs.declared.command.Target.{Target}
 use Rattle.kds_defs.specs.declared.command.Target.TheVariants as target
@@ -28,7 +26,7 @@ use Rattle.kds_defs.specs.Records.{left_from}
 use Rattle.kds_defs.specs.Streams.{is_live, trim_floor}
 use Rattle.kds_defs.specs.declared.limits.TheConstants.{BATCH_BYTES}
 use Rattle.kcl_laws.specs.Recorded.{HasFrom}
-use Rattle.kcl_laws.proofs.Batches.{all_map, RecordsStep, SameRecords, NewRecord, records_step}
+use Rattle.kcl_laws.proofs.Batches.{RecordsStep, SameRecords, NewRecord, records_step}
 use Rattle.kcl_laws.proofs.CoverageLemmas.{TargetOk, read_told, mark_told, take_told}
 use Rattle.kcl_laws.proofs.DeliveryLemmas.{row_made, same_self, tenure_made}
 use Rattle.kcl_laws.proofs.StartLemmas.{origin_before, begins_shard}
@@ -37,7 +35,7 @@ use Rattle.kcl_laws.proofs.Steps.{NewRow, SameCheckpoint, MarkedRow, row_step}
 
 -- ---- Positions that aren't beyond the records of a shard
 
--- The position is 0, or at most one above the sequence number of one of the records. So it isn't beyond all records.
+-- The position isn't beyond all records: it is 0, or at most one above the sequence number of one of them.
 abbrev pub IsReached : ℕ → List Logged → Type 0
 IsReached position [] = position ≡ 0
 IsReached position (r ∷ rs) = (position ≤ r.seq + 1) ⊎ IsReached position rs
@@ -71,15 +69,6 @@ reached_stays log line legal s sh position h = stays_by log line s sh position (
 
 -- ---- A batch reaches no further than its records
 
-all_filtered : (f : Logged → Bool) (P : Logged → Type 0) (rs : List Logged) → AllByRecursion P rs
-    → AllByRecursion P (filter f rs)
-all_filtered f P [] are = tt
-all_filtered f P (r ∷ rs) are = either (f r) (all_filtered f P rs are.1)
-  where
-    either : (b : Bool) → AllByRecursion P (filter f rs) → AllByRecursion P (cond b (r ∷ filter f rs) (filter f rs))
-    either true rest = (are.0, rest)
-    either false rest = rest
-
 all_begun : (limit room : ℕ) (P : Logged → Type 0) (rs : List Logged) → AllByRecursion P rs
     → AllByRecursion P (beginning limit room rs)
 all_begun zero room P rs are = tt
@@ -91,13 +80,12 @@ all_begun (suc limit) room P (r ∷ rs) are = either (nat_le r.bytes room) (all_
     either true rest = (are.0, rest)
     either false rest = tt
 
--- For each of the records, the position one above the record's number is reached (`IsReached`).
 all_reached : (rs : List Logged) → AllByRecursion (λ (r : Logged). IsReached (r.seq + 1) rs) rs
 all_reached [] = tt
 all_reached (r ∷ rs) = (
   inl (omega arith),
-  all_map (λ (x : Logged). IsReached (x.seq + 1) rs) (λ (x : Logged).
-      IsReached (x.seq + 1) (r ∷ rs)) rs (λ x is. inr is) (all_reached rs),
+  all_weaker (λ (x : Logged). IsReached (x.seq + 1) rs) (λ (x : Logged).
+      IsReached (x.seq + 1) (r ∷ rs)) (λ x is. inr is) rs (all_reached rs),
 )
 
 left_reached : (log : Journal) (c s sh position : ℕ)
@@ -106,33 +94,32 @@ left_reached log c s sh position = either (is_live log s)
   where
     either : (b : Bool) → AllByRecursion (λ (r : Logged). IsReached (r.seq + 1) (records log s sh))
         (if b then left_among (trim_floor log c s) position (records log s sh) else [])
-    either true = all_filtered (is_left (trim_floor log c s) position) (λ (r : Logged).
-        IsReached (r.seq + 1) (records log s sh)) (records log s sh) (all_reached (records log s sh))
+    either true = all_filter (λ (r : Logged).
+        IsReached (r.seq + 1) (records log s sh)) (is_left (trim_floor log c s) position) (records log s sh)
+        (all_reached (records log s sh))
     either false = tt
 
 position_reached : (position : ℕ) (all bs : List Logged) → IsReached position all
     → AllByRecursion (λ (r : Logged). IsReached (r.seq + 1) all) bs
     → IsReached (position_after position (numbers_of bs)) all
-position_reached position all [] at are = at
-position_reached position all (r ∷ bs) at are = position_reached (r.seq + 1) all bs are.0 are.1
+position_reached position all [] is_at are = is_at
+position_reached position all (r ∷ bs) is_at are = position_reached (r.seq + 1) all bs are.0 are.1
 
 batch_reached : (log : Journal) (c s sh position limit : ℕ) → IsReached position (records log s sh)
     → IsReached (position_after position (numbers_of (batch log c s sh position limit))) (records log s sh)
-batch_reached log c s sh position limit at =
-    position_reached position (records log s sh) (batch log c s sh position limit) at
+batch_reached log c s sh position limit is_at =
+    position_reached position (records log s sh) (batch log c s sh position limit) is_at
     (all_begun limit BATCH_BYTES (λ (r : Logged). IsReached (r.seq + 1) (records log s sh))
     (left_from log c s sh position)
     (left_reached log c s sh position))
 
 -- ---- Tenures and rows
 
--- The positions of the tenure `T` are reached (`IsReached`): the position where `T` begins, and the position after each
--- prefix of its reads.
 AreReached : Journal → TenureState → Type 0
 AreReached log T = (i : ℕ)
     → IsReached (position_after_reads (start_position T.start) (take i T.reads)) (records log T.key.stream T.key.shard)
 
-positions_append : (p : ℕ) (rs : List ReadDone) (r : ReadDone)
+pub positions_append : (p : ℕ) (rs : List ReadDone) (r : ReadDone)
     → position_after_reads p (rs ++ r ∷ []) ≡ position_after (position_after_reads p rs) r.numbers
 positions_append p [] r = refl
 positions_append p (q ∷ rs) r = positions_append (position_after p q.numbers) rs r
@@ -160,13 +147,11 @@ take_all : (rs : List ReadDone) → take (length rs) rs ≡ rs
 take_all [] = refl
 take_all (r ∷ rs) = ap (λ xs. r ∷ xs) (take_all rs)
 
--- If the positions of a tenure are reached (`AreReached`), they are still reached after one more read of a batch at the
--- tenure's read position.
 read_reached : (log : Journal) (c limit : ℕ) (T : TenureState) (numbers : List ℕ) (ended : Bool)
     → numbers ≡ numbers_of (batch log c T.key.stream T.key.shard (reach T) limit) → AreReached log T
     → AreReached log (with_read numbers ended T)
 unfolding AreReached
-read_reached log c limit T numbers ended is at i = either (take_snoc i T.reads r)
+read_reached log c limit T numbers ended is is_at i = either (take_snoc i T.reads r)
   where
     r : ReadDone
     r = record { numbers = numbers; ended = ended }
@@ -178,23 +163,21 @@ read_reached log c limit T numbers ended is at i = either (take_snoc i T.reads r
     p = start_position T.start
 
     whole : IsReached (reach T) all
-    whole = subst (λ rs. IsReached (position_after_reads p rs) all) (take_all T.reads) (at (length T.reads))
+    whole = subst (λ rs. IsReached (position_after_reads p rs) all) (take_all T.reads) (is_at (length T.reads))
 
     either : (take i (T.reads ++ r ∷ []) ≡ take i T.reads) ⊎ (take i (T.reads ++ r ∷ []) ≡ T.reads ++ r ∷ [])
         → IsReached (position_after_reads p (take i (T.reads ++ r ∷ []))) all
-    either (inl same) = subst (λ rs. IsReached (position_after_reads p rs) all) (sym same) (at i)
+    either (inl same) = subst (λ rs. IsReached (position_after_reads p rs) all) (sym same) (is_at i)
     either (inr same) =
         subst (λ rs. IsReached (position_after_reads p rs) all) (sym same)
         (subst (λ n. IsReached n all) (sym (positions_append p T.reads r))
         (subst (λ ns. IsReached (position_after (reach T) ns) all) (sym is)
         (batch_reached log c T.key.stream T.key.shard (reach T) limit whole)))
 
--- The position where reading begins after the checkpoint isn't beyond all records of the shard `key` (`IsReached`).
 RowReached : Journal → ShardRef → Checkpoint → Type 0
 RowReached log key checkpoint = IsReached (start_position checkpoint) (records log key.stream key.shard)
 
--- For each row whose origin is the trim horizon, the position after the row's checkpoint is reached (`RowReached`). For
--- each tenure of the key of such a row, the tenure's positions are reached (`AreReached`).
+-- The positions of rows and tenures with the origin trim horizon aren't beyond all records of their shards.
 record AllReached (log : Journal) : Type 0 where
   rows : (key : ShardRef) (r : Row) → row log key ≡ Some r → origin_of log key ≡ Some origin.TrimHorizon
       → RowReached log key r.checkpoint
@@ -204,108 +187,99 @@ record AllReached (log : Journal) : Type 0 where
 tenure_stays : (log : Journal) (line : Line) (T : TenureState) → IsLegal (line ∷ log) → AreReached log T
     → AreReached (line ∷ log) T
 unfolding AreReached
-tenure_stays log line T legal at i = reached_stays log line legal T.key.stream T.key.shard _ (at i)
+tenure_stays log line T legal is_at i = reached_stays log line legal T.key.stream T.key.shard _ (is_at i)
 
 row_stays : (log : Journal) (line : Line) (key : ShardRef) (checkpoint : Checkpoint) → IsLegal (line ∷ log)
     → RowReached log key checkpoint → RowReached (line ∷ log) key checkpoint
 unfolding RowReached
-row_stays log line key checkpoint legal at = reached_stays log line legal key.stream key.shard _ at
+row_stays log line key checkpoint legal is_at = reached_stays log line legal key.stream key.shard _ is_at
 
--- Let `AllReached` hold, and let the row of the key `key` have the origin trim horizon. Then the positions of a new
--- tenure of this row are reached, because the tenure begins at the row's checkpoint.
-begun_reached : (log : Journal) (by : ℕ) (key : ShardRef) (o : Option Row) → row log key ≡ o
+begun_reached : (log : Journal) (actor : ℕ) (key : ShardRef) (o : Option Row) → row log key ≡ o
     → origin_of log key ≡ Some origin.TrimHorizon → AllReached log
-    → AreReached log (new_tenure by key (checkpoint_in o))
+    → AreReached log (new_tenure actor key (checkpoint_in o))
 unfolding AreReached RowReached
-begun_reached log by key None is from all zero = reached_none (records log key.stream key.shard)
-begun_reached log by key None is from all (suc i) = reached_none (records log key.stream key.shard)
-begun_reached log by key (Some r) is from all zero = all.rows key r is from
-begun_reached log by key (Some r) is from all (suc i) = all.rows key r is from
+begun_reached log actor key None is is_from all zero = reached_none (records log key.stream key.shard)
+begun_reached log actor key None is is_from all (suc i) = reached_none (records log key.stream key.shard)
+begun_reached log actor key (Some r) is is_from all zero = all.rows key r is is_from
+begun_reached log actor key (Some r) is is_from all (suc i) = all.rows key r is is_from
 
 opened_reached : (log : Journal) (T : TenureState) → AreReached log T → AreReached log (with_opened T)
 unfolding AreReached
-opened_reached log T at = at
+opened_reached log T is_at = is_at
 
 given_reached : (log : Journal) (T : TenureState) → AreReached log T → AreReached log (with_given T)
 unfolding AreReached
-given_reached log T at = at
+given_reached log T is_at = is_at
 
--- Let `AllReached` hold before the line, and let the key of the tenure `t` have a row with the origin trim horizon
--- after the line. Then the positions that the tenure had before the line are reached.
 before_reached : (log : Journal) (line : Line) → IsLegal (line ∷ log) → AllReached log → (t : ℕ) (S T : TenureState)
     → tenure log t ≡ Some S → T.key ≡ S.key → origin_of (line ∷ log) T.key ≡ Some origin.TrimHorizon → AreReached log S
-before_reached log line legal all t S T is same from =
-    let here = subst (λ k. origin_of (line ∷ log) k ≡ Some origin.TrimHorizon) same from in
+before_reached log line legal all t S T is same is_from =
+    let here = subst (λ k. origin_of (line ∷ log) k ≡ Some origin.TrimHorizon) same is_from in
     all.tenures t S is (origin_before log line legal line.what S.key _ refl (tenure_made log legal.1 t S is) here)
 
 tenure_after_line : (log : Journal) (line : Line) → IsLegal (line ∷ log) → AllReached log → (t : ℕ) (T : TenureState)
     → TenureStep log line t T → origin_of (line ∷ log) T.key ≡ Some origin.TrimHorizon → AreReached log T
-tenure_after_line log line legal all t T (Begun key number counter owner is new state) from =
+tenure_after_line log line legal all t T (Begun key number counter owner is new state) is_from =
     let allowed = subst (λ e. told log line e ≡ Accepted (line ∷ []) legal.0.reply) is legal.0.allowed in
     let f = take_told log line key number counter owner legal.0.reply allowed in
     let here = subst (λ k. origin_of (line ∷ log) k ≡ Some origin.TrimHorizon) (ap (λ (U : TenureState). U.key) state)
-    from in
+    is_from in
     let old = origin_before log line legal line.what key _ refl (row_made log key f.state f.there) here in
     subst (AreReached log) (sym state) (begun_reached log line.by key (row log key) refl old all)
-tenure_after_line log line legal all t T (Same is) from = before_reached log line legal all t T T is refl from
-tenure_after_line log line legal all t T (Opening before is at new) from =
+tenure_after_line log line legal all t T (Same is) is_from = before_reached log line legal all t T T is refl is_from
+tenure_after_line log line legal all t T (Opening earlier is moment new) is_from =
     subst (AreReached log) (sym new)
-    (opened_reached log before
-    (before_reached log line legal all t before T at (ap (λ (U : TenureState). U.key) new) from))
-tenure_after_line log line legal all t T (Reading before limit ended numbers is at new) from =
+    (opened_reached log earlier
+    (before_reached log line legal all t earlier T moment (ap (λ (U : TenureState). U.key) new) is_from))
+tenure_after_line log line legal all t T (Reading earlier limit ended numbers is moment new) is_from =
     let allowed = subst (λ e. told log line e ≡ Accepted (line ∷ []) legal.0.reply) is legal.0.allowed in
     let f = read_told log line t limit ended numbers legal.0.reply is allowed in
-    let same : f.state ≡ before = same_some f.state before (sym f.begun ∙ at) in
+    let same : f.state ≡ earlier = same_Some f.state earlier (sym f.begun ∙ moment) in
     let ns = f.numbers_are
     ∙ ap (λ (S : TenureState). numbers_of (batch log line.clock S.key.stream S.key.shard (reach S) limit)) same in
-    let old = before_reached log line legal all t before T at (ap (λ (U : TenureState). U.key) new) from in
-    subst (AreReached log) (sym new) (read_reached log line.clock limit before numbers ended ns old)
-tenure_after_line log line legal all t T (Giving before is at new) from =
+    let old = before_reached log line legal all t earlier T moment (ap (λ (U : TenureState). U.key) new) is_from in
+    subst (AreReached log) (sym new) (read_reached log line.clock limit earlier numbers ended ns old)
+tenure_after_line log line legal all t T (Giving earlier is moment new) is_from =
     subst (AreReached log) (sym new)
-    (given_reached log before
-    (before_reached log line legal all t before T at (ap (λ (U : TenureState). U.key) new) from))
+    (given_reached log earlier
+    (before_reached log line legal all t earlier T moment (ap (λ (U : TenureState). U.key) new) is_from))
 
--- If the positions of the tenure `T` are reached, and `T` may mark the target `to` (`TargetOk`), then the position
--- after the checkpoint that this mark sets is reached.
-marked_reached : (log : Journal) (T : TenureState) (to : Target) → TargetOk T to → AreReached log T
-    → RowReached log T.key (checkpoint_at to)
+marked_reached : (log : Journal) (T : TenureState) (goal : Target) → TargetOk T goal → AreReached log T
+    → RowReached log T.key (checkpoint_at goal)
 unfolding AreReached RowReached
-marked_reached log T (target.At q) below at =
-    reached_below (delivered T) (q + 1) (records log T.key.stream T.key.shard) (omega arith) (at T.given)
-marked_reached log T target.End below at = reached_none (records log T.key.stream T.key.shard)
-
-same_origin : (from q : Origin) → Some from ≡ Some q → from ≡ q
-same_origin from q h = cc
+marked_reached log T (target.At q) below is_at =
+    reached_below (delivered T) (q + 1) (records log T.key.stream T.key.shard) (omega arith) (is_at T.given)
+marked_reached log T target.End below is_at = reached_none (records log T.key.stream T.key.shard)
 
 row_after_line : (log : Journal) (line : Line) → IsLegal (line ∷ log) → AllReached log → (key : ShardRef) (r : Row)
     → RowStep log line key r → origin_of (line ∷ log) key ≡ Some origin.TrimHorizon → RowReached log key r.checkpoint
 unfolding RowReached
-row_after_line log line legal all key r (NewRow from is floor start) h =
+row_after_line log line legal all key r (NewRow first is floor start) h =
     let here = ap (λ e. origin_after e key (origin_of log key)) is
-    ∙ ap (λ b. if b then Some from else origin_of log key) (same_self key.stream key.shard) in
-    let horizon = same_origin from origin.TrimHorizon (sym here ∙ h) in
+    ∙ ap (λ b. if b then Some first else origin_of log key) (same_self key.stream key.shard) in
+    let horizon = same_Some first origin.TrimHorizon (sym here ∙ h) in
     let begins : r.checkpoint ≡ TrimHorizon =
-    start ∙ ap (λ o. start_from o (floor_from log line.clock key from)) horizon in
+    start ∙ ap (λ o. start_from o (floor_from log line.clock key first)) horizon in
     subst (λ c. IsReached (start_position c) (records log key.stream key.shard)) (sym begins)
     (reached_none (records log key.stream key.shard))
-row_after_line log line legal all key r (SameCheckpoint before there floor same) h =
-    let old = origin_before log line legal line.what key _ refl (row_made log key before there) h in
+row_after_line log line legal all key r (SameCheckpoint earlier there floor same) h =
+    let old = origin_before log line legal line.what key _ refl (row_made log key earlier there) h in
     subst (λ c. IsReached (start_position c) (records log key.stream key.shard)) (sym same)
-    (all.rows key before there old)
-row_after_line log line legal all key r (MarkedRow before t counter to is of there floor marked) h =
-    let old = origin_before log line legal line.what key _ refl (row_made log key before there) h in
+    (all.rows key earlier there old)
+row_after_line log line legal all key r (MarkedRow earlier t counter goal is is_of there floor marked) h =
+    let old = origin_before log line legal line.what key _ refl (row_made log key earlier there) h in
     let allowed = subst (λ e. told log line e ≡ Accepted (line ∷ []) legal.0.reply) is legal.0.allowed in
-    let m = mark_told log line t counter to legal.0.reply allowed in
-    let key_is : m.state.key ≡ key = same_some m.state.key key (sym (tenure_key log t m.state m.begun) ∙ of) in
+    let m = mark_told log line t counter goal legal.0.reply allowed in
+    let key_is : m.state.key ≡ key = same_Some m.state.key key (sym (tenure_key log t m.state m.begun) ∙ is_of) in
     let here = subst (λ k. origin_of log k ≡ Some origin.TrimHorizon) (sym key_is) old in
     subst (λ c. IsReached (start_position c) (records log key.stream key.shard)) (sym marked)
-    (subst (λ (k : ShardRef). IsReached (start_position (checkpoint_at to)) (records log k.stream k.shard)) key_is
-    (marked_reached log m.state to m.meets (all.tenures t m.state m.begun here)))
+    (subst (λ (k : ShardRef). IsReached (start_position (checkpoint_at goal)) (records log k.stream k.shard)) key_is
+    (marked_reached log m.state goal m.meets (all.tenures t m.state m.begun here)))
 
 all_reach : (log : Journal) → IsLegal log → AllReached log
 all_reach [] legal = record {
-  rows = λ key r is from. absurd (no_row r is);
-  tenures = λ t T is from. absurd (no_tenure T is);
+  rows = λ key r is is_from. absurd (no_row r is);
+  tenures = λ t T is is_from. absurd (no_tenure T is);
 }
   where
     no_row : (r : Row) → None ≡ Some r → ⊥
@@ -314,32 +288,29 @@ all_reach [] legal = record {
     no_tenure : (T : TenureState) → None ≡ Some T → ⊥
     no_tenure T is = cc
 all_reach (line ∷ log) legal = record {
-  rows = λ key r is from.
+  rows = λ key r is is_from.
       row_stays log line key r.checkpoint legal
-      (row_after_line log line legal (all_reach log legal.1) key r (row_step log line key r is) from);
-  tenures = λ t T is from.
+      (row_after_line log line legal (all_reach log legal.1) key r (row_step log line key r is) is_from);
+  tenures = λ t T is is_from.
       tenure_stays log line T legal
-      (tenure_after_line log line legal (all_reach log legal.1) t T (tenure_step log line t T is) from);
+      (tenure_after_line log line legal (all_reach log legal.1) t T (tenure_step log line t T is) is_from);
 }
 
--- In a legal journal, let a row have the origin trim horizon and a checkpoint at the number `q`. Then the row's shard
--- has a record with this number or a greater one.
 pub checkpoint_reached : (log : Journal) → IsLegal log → (key : ShardRef) (r : Row) (q : ℕ) → row log key ≡ Some r
     → origin_of log key ≡ Some origin.TrimHorizon → r.checkpoint ≡ At q → HasFrom q (records log key.stream key.shard)
 unfolding RowReached
-checkpoint_reached log legal key r q there from is =
+checkpoint_reached log legal key r q there is_from is =
     found q (records log key.stream key.shard)
     (subst (λ c. IsReached (start_position c) (records log key.stream key.shard)) is
-    ((all_reach log legal).rows key r there from))
+    ((all_reach log legal).rows key r there is_from))
   where
     found : (q : ℕ) (rs : List Logged) → IsReached (q + 1) rs → HasFrom q rs
-    found q [] at = absurd (omega arith)
-    found q (r ∷ rs) (inl at) = inl (omega arith)
-    found q (r ∷ rs) (inr at) = inr (found q rs at)
+    found q [] is_at = absurd (omega arith)
+    found q (r ∷ rs) (inl is_at) = inl (omega arith)
+    found q (r ∷ rs) (inr is_at) = inr (found q rs is_at)
 
--- In a legal journal, the floor of a row whose origin is the trim horizon is the starting sequence number of its shard.
 pub horizon_floor : (log : Journal) → IsLegal log → (key : ShardRef) (r : Row) → row log key ≡ Some r
     → origin_of log key ≡ Some origin.TrimHorizon → r.floor ≡ start_of (shard_at log key.stream key.shard)
-horizon_floor log legal key r there from =
-    let b = begins_shard log legal key r there from in
+horizon_floor log legal key r there is_from =
+    let b = begins_shard log legal key r there is_from in
     b.first ∙ ap start_of (sym b.there)

@@ -1,5 +1,4 @@
--- In a legal journal, each read comes after its tenure was opened. A tenure is opened only once each parent of its
--- shard is expired or was read to its end.
+-- In a legal journal, a tenure is opened after the shard's parents were processed or expired, and read after that.
 use Rattle.std.proofs.Common.{◌≡◌, ℕ, zero, suc, ◌+◌, ◌<◌, ◌≤◌, Bool, true, false, List, [], ◌∷◌, ◌++◌, length, Option}
 use Rattle.std.proofs.Common.{Some, None, refl, sym, ap, subst, ◌∙◌, arith, inl, inr, length-append}
 use Rattle.std.specs.Prelude.{◌==◌, ◌&&◌, ◌⊎◌, not, slice_get, if◌then◌else◌}
@@ -30,16 +29,16 @@ use Rattle.kcl_laws.proofs.Steps.{TenureStep, Begun, Same, Opening, Reading, Giv
 
 -- ---- The parents of a shard are shards of its stream
 
--- If there is a number in the first argument, it is below `n`.
+-- The number, if there is one, is below `n`.
 abbrev pub IsBelow : Option ℕ → ℕ → Type 0
 IsBelow None n = Unit {0}
 IsBelow (Some p) n = p < n
 
--- The number of each parent of the shard `x` is below `n`.
+-- The numbers of the shard's parents are below `n`.
 abbrev pub HasParents : ℕ → ShardState → Type 0
 HasParents n x = IsBelow x.parent n × IsBelow x.adjacent n
 
--- The number of each parent of each shard in `xs` is below `n`.
+-- The numbers of all parents of these shards are below `n`.
 abbrev pub HaveParents : ℕ → List ShardState → Type 0
 HaveParents n xs = AllByRecursion (HasParents n) xs
 
@@ -66,13 +65,11 @@ parents-first : (i start n : ℕ) (ranges : List Span) → HaveParents n (first_
 parents-first i start n [] = tt
 parents-first i start n (r ∷ rs) = ((tt, tt), parents-first (i + 1) start n rs)
 
--- If the list of shards has an open shard at the index `sh`, this index is below the list's length.
-open_within : (xs : List ShardState) (sh : ℕ) → is_open_at (slice_get xs sh) ≡ true → sh < length xs
+pub open_within : (xs : List ShardState) (sh : ℕ) → is_open_at (slice_get xs sh) ≡ true → sh < length xs
 open_within [] sh h = absurd cc
 open_within (x ∷ xs) zero h = omega arith
 open_within (x ∷ xs) (suc sh) h = omega (arith, open_within xs sh h)
 
--- If the index `sh` is below the list's length, the list has a shard at this index.
 pub there_is : (xs : List ShardState) (sh : ℕ) → sh < length xs → (x : ShardState) × (slice_get xs sh ≡ Some x)
 there_is [] sh h = absurd (omega arith)
 there_is (x ∷ xs) zero h = (x, refl)
@@ -116,9 +113,9 @@ parents_choice false xs ys h g = g
 parents_after : (log : Journal) (line : Line) (e : Entry) (reply : Reply) → told log line e ≡ Accepted (line ∷ []) reply
     → (s start : ℕ) → HaveParents (length (shards log s)) (shards log s)
     → HaveParents (length (shards_after line e s start (shards log s))) (shards_after line e s start (shards log s))
-parents_after log line (entry.Made stream name count) reply h s start before =
-    parents_choice (stream == s) _ _ (λ same. parents-first 0 start _ (uniform count)) before
-parents_after log line (entry.Split stream sh at number low high) reply h s start before =
+parents_after log line (entry.Made stream name count) reply h s start is_before =
+    parents_choice (stream == s) _ _ (λ same. parents-first 0 start _ (uniform count)) is_before
+parents_after log line (entry.Split stream sh hash number low high) reply h s start is_before =
     let a = passes _ _ _ _ reply h in
     let b = passes _ _ _ _ reply a.1 in
     let d = passes _ _ _ _ reply b.1 in
@@ -126,23 +123,22 @@ parents_after log line (entry.Split stream sh at number low high) reply h s star
     (λ same.
     parents_two (shards log s) sh _ _ start _ _ _
     (open_within (shards log s) sh
-    (subst (λ k. is_open_at (shard_at log k sh) ≡ true) (equal_so stream s same) (holds_so _ d.0))) before)
-    before
-parents_after log line (entry.Merged stream sh other number child) reply h s start before =
+    (subst (λ k. is_open_at (shard_at log k sh) ≡ true) (equal_so stream s same) (holds_so _ d.0))) is_before)
+    is_before
+parents_after log line (entry.Merged stream sh other number child) reply h s start is_before =
     let a = passes _ _ _ _ reply h in
     let b = passes _ _ _ _ reply a.1 in
     let d = passes _ _ _ _ reply b.1 in
     let opens = and_parts _ _ (holds_so _ d.0) in
     parents_choice (stream == s) _ _
     (λ same.
-    let to = equal_so stream s same in
+    let target = equal_so stream s same in
     parents_one (shards log s) sh other _ start _ _
-    (open_within (shards log s) sh (subst (λ k. is_open_at (shard_at log k sh) ≡ true) to opens.0))
-    (open_within (shards log s) other (subst (λ k. is_open_at (shard_at log k other) ≡ true) to opens.1)) before)
-    before
-parents_after log line _ reply h s start before = before
+    (open_within (shards log s) sh (subst (λ k. is_open_at (shard_at log k sh) ≡ true) target opens.0))
+    (open_within (shards log s) other (subst (λ k. is_open_at (shard_at log k other) ≡ true) target opens.1)) is_before)
+    is_before
+parents_after log line _ reply h s start is_before = is_before
 
--- In a legal journal, the parents of each shard of the stream `s` have the numbers of shards of this stream.
 pub parents : (log : Journal) → IsLegal log → (s : ℕ) → HaveParents (length (shards log s)) (shards log s)
 parents [] legal s = tt
 parents (line ∷ log) legal s =
@@ -160,10 +156,10 @@ parents_at (y ∷ ys) n (suc sh) x h is = parents_at ys n sh x h.1 is
 past_by : (log : Journal) (c s : ℕ) (p : ℕ) (x : ShardState) (b : Bool) → is_marked_to_end (row log (ref s p)) ≡ b
     → shard_at log s p ≡ Some x → (is_listed_state log c s (shard_at log s p) && not b) ≡ false
     → (is_marked_to_end (row log (ref s p)) ≡ true) ⊎ IsExpiredState log c s (shard_at log s p)
-past_by log c s p x true is at h = inl is
-past_by log c s p x false is at h =
-    let g : not (is_expired log c s x) ≡ false = ap (λ o. is_listed_state log c s o) (sym at) ∙ and_true _ h in
-    inr (subst (IsExpiredState log c s) (sym at) (holds_so _ g))
+past_by log c s p x true is is_at h = inl is
+past_by log c s p x false is is_at h =
+    let g : not (is_expired log c s x) ≡ false = ap (λ o. is_listed_state log c s o) (sym is_at) ∙ and_true _ h in
+    inr (subst (IsExpiredState log c s) (sym is_at) (holds_so _ g))
   where
     and_true : (b : Bool) → (b && true) ≡ false → b ≡ false
     and_true true h = h
@@ -178,9 +174,9 @@ past log c s n (Some p) len below read =
 
 past_state : (log : Journal) → IsLegal log → (c s sh : ℕ) (o : Option ShardState) → shard_at log s sh ≡ o
     → is_listed_state log c s o ≡ true → AreParentsRead log c s o → ArePastState log c s o
-past_state log legal c s sh None at listed read = absurd cc
-past_state log legal c s sh (Some x) at listed read =
-    let h = parents_at (shards log s) _ sh x (parents log legal s) at in
+past_state log legal c s sh None is_at listed read = absurd cc
+past_state log legal c s sh (Some x) is_at listed read =
+    let h = parents_at (shards log s) _ sh x (parents log legal s) is_at in
     (past log c s _ x.parent refl h.0 read.0, past log c s _ x.adjacent refl h.1 read.1)
 
 -- ---- An opened tenure was opened
@@ -188,20 +184,19 @@ past_state log legal c s sh (Some x) at listed read =
 opened_by : (log : Journal) (line : Line) (t : ℕ) (T : TenureState) → TenureStep log line t T
     → ((S : TenureState) → tenure log t ≡ Some S → S.opened ≡ true → WasOpened log t) → T.opened ≡ true
     → WasOpened (line ∷ log) t
-opened_by log line t T (Begun key number counter owner is new state) before h =
+opened_by log line t T (Begun key number counter owner is new state) is_before h =
     let e = sym h ∙ ap (λ (S : TenureState). S.opened) state in absurd (apart true refl e)
-opened_by log line t T (Same is) before h = inr (before T is h)
-opened_by log line t T (Opening S what is new) before h = inl (subst (λ e. IsOpening e t) (sym what) refl)
-opened_by log line t T (Reading S limit ended numbers what is new) before h =
-    inr (before S is (ap (λ (U : TenureState). U.opened) (sym new) ∙ h))
-opened_by log line t T (Giving S what is new) before h =
-    inr (before S is (ap (λ (U : TenureState). U.opened) (sym new) ∙ h))
+opened_by log line t T (Same is) is_before h = inr (is_before T is h)
+opened_by log line t T (Opening S change is new) is_before h = inl (subst (λ e. IsOpening e t) (sym change) refl)
+opened_by log line t T (Reading S limit ended numbers change is new) is_before h =
+    inr (is_before S is (ap (λ (U : TenureState). U.opened) (sym new) ∙ h))
+opened_by log line t T (Giving S change is new) is_before h =
+    inr (is_before S is (ap (λ (U : TenureState). U.opened) (sym new) ∙ h))
 
--- If the state of a tenure says that it is opened, the journal has a line that opens it.
 pub was_opened : (log : Journal) (t : ℕ) (T : TenureState) → tenure log t ≡ Some T → T.opened ≡ true → WasOpened log t
 was_opened [] t T is h = absurd cc
 was_opened (line ∷ log) t T is h =
-    opened_by log line t T (tenure_step log line t T is) (λ S at o. was_opened log t S at o) h
+    opened_by log line t T (tenure_step log line t T is) (λ S is_at o. was_opened log t S is_at o) h
 
 -- ---- Lineage
 
@@ -222,8 +217,6 @@ in_line log line (entry.Read t limit ended numbers) reply legal h =
     was_opened log t f.state f.begun (holds_so _ a.0)
 in_line log line _ reply legal h = tt
 
--- In a legal journal, a tenure is opened only when the parents of its shard are expired or were read to their ends.
--- Each read comes after an opening of its tenure (`AreInLine`).
 pub all_in_line : (log : Journal) → IsLegal log → AreInLine log
 all_in_line [] legal = tt
 all_in_line (line ∷ log) legal =

@@ -1,4 +1,4 @@
--- In a legal journal, the ranges of the open shards of each stream partition the hash keys.
+-- In a legal journal, the ranges of each stream's open shards partition the hash keys.
 use Rattle.std.proofs.Common.{◌≡◌, ℕ, Bool, true, false, List, [], ◌∷◌, ◌++◌, Option, Some, None, refl, subst, ◌∙◌}
 use Rattle.std.specs.Prelude.{◌==◌, ◌||◌, slice_get, if◌then◌else◌}
 use Rattle.std.proofs.lemmas.Bool.{and_parts}
@@ -19,16 +19,15 @@ use Rattle.kds_defs.specs.Tiled.{IsTiled}
 use Rattle.kds_defs.proofs.Decisions.{passes, holds_so}
 use Rattle.kds_defs.proofs.Tiles.{same_times, tiled_new, tiled_split, tiled_merge}
 
--- `o` is the shard at the index `sh` of `xs`. If `xs` is tiled (`IsTiled`), and this shard is open and can be split at
--- the key `at`, then the shards after the split are tiled.
-split_there : (xs : List ShardState) (sh n m at start : ℕ) (closing : Closing) (p q : Option ℕ) (o : Option ShardState)
-    → slice_get xs sh ≡ o → is_open_at o ≡ true → is_inside (range_of o) at ≡ true → IsTiled xs
+split_there : (xs : List ShardState) (sh n m hash start : ℕ) (closing : Closing) (p q : Option ℕ)
+    (o : Option ShardState)
+    → slice_get xs sh ≡ o → is_open_at o ≡ true → is_inside (range_of o) hash ≡ true → IsTiled xs
     → IsTiled (with_closed sh closing xs
-    ++ (new_shard n (lower_part (range_of o) at) p q start ∷ new_shard m (upper_part (range_of o) at) p q start
+    ++ (new_shard n (lower_part (range_of o) hash) p q start ∷ new_shard m (upper_part (range_of o) hash) p q start
     ∷ []))
-split_there xs sh n m at start closing p q None is open_now inside tiled = absurd cc
-split_there xs sh n m at start closing p q (Some x) is open_now inside tiled =
-    tiled_split xs sh n m at start closing p q x is open_now inside tiled
+split_there xs sh n m hash start closing p q None is open_now inside tiled = absurd cc
+split_there xs sh n m hash start closing p q (Some x) is open_now inside tiled =
+    tiled_split xs sh n m hash start closing p q x is open_now inside tiled
 
 merge_there : (xs : List ShardState) (sh other n start : ℕ) (closing : Closing) (p q : Option ℕ)
     (o o' : Option ShardState) → slice_get xs sh ≡ o → slice_get xs other ≡ o' → is_open_at o ≡ true
@@ -40,8 +39,6 @@ merge_there xs sh other n start closing p q (Some x) None is is' open_x open_y t
 merge_there xs sh other n start closing p q (Some x) (Some y) is is' open_x open_y touch tiled =
     tiled_merge xs sh other n start closing p q x y is is' open_x open_y touch tiled
 
--- If `xs` is tiled (`IsTiled`) whenever `b` is true, and `ys` whenever `b` is false, then the list that `b` chooses is
--- tiled.
 chosen : (b : Bool) (xs ys : List ShardState) → (b ≡ true → IsTiled xs) → (b ≡ false → IsTiled ys)
     → IsTiled (if b then xs else ys)
 chosen true xs ys h g = h refl
@@ -51,29 +48,27 @@ or_else : (b d : Bool) → (b || d) ≡ true → b ≡ false → d ≡ true
 or_else true d h f = absurd cc
 or_else false d h f = h
 
--- If the shards of a stream that was made are tiled (`IsTiled`) before an accepted line, they are tiled after it. If
--- the line itself makes the stream, they are tiled after it too.
 tiled_after : (log : Journal) (line : Line) (e : Entry) (reply : Reply) → IsInRange e
     → told log line e ≡ Accepted (line ∷ []) reply
     → (s start : ℕ) → (was_made log s ≡ true → IsTiled (shards log s)) → was_made_after e s (was_made log s) ≡ true
     → IsTiled (shards_after line e s start (shards log s))
-tiled_after log line (entry.Made stream name count) reply range h s start before made =
+tiled_after log line (entry.Made stream name count) reply range h s start is_before made =
     chosen (stream == s) _ _ (λ same. tiled_new count start range.0 range.1)
-    (λ other. before (or_else (stream == s) _ made other))
-tiled_after log line (entry.Split stream sh at number low high) reply range h s start before made =
+    (λ other. is_before (or_else (stream == s) _ made other))
+tiled_after log line (entry.Split stream sh hash number low high) reply range h s start is_before made =
     let a = passes _ _ _ _ reply h in
     let b = passes _ _ _ _ reply a.1 in
     let d = passes _ _ _ _ reply b.1 in
     let e = passes _ _ _ _ reply d.1 in
     chosen (stream == s) _ _
     (λ same.
-    let to = equal_so stream s same in
-    split_there (shards log s) sh _ _ at start _ _ _ _ refl
-    (subst (λ k. is_open_at (shard_at log k sh) ≡ true) to (holds_so _ d.0))
-    (subst (λ k. is_inside (range_of (shard_at log k sh)) at ≡ true) to (holds_so _ e.0))
-    (before made))
-    (λ other. before made)
-tiled_after log line (entry.Merged stream sh other number child) reply range h s start before made =
+    let target = equal_so stream s same in
+    split_there (shards log s) sh _ _ hash start _ _ _ _ refl
+    (subst (λ k. is_open_at (shard_at log k sh) ≡ true) target (holds_so _ d.0))
+    (subst (λ k. is_inside (range_of (shard_at log k sh)) hash ≡ true) target (holds_so _ e.0))
+    (is_before made))
+    (λ other. is_before made)
+tiled_after log line (entry.Merged stream sh other number child) reply range h s start is_before made =
     let a = passes _ _ _ _ reply h in
     let b = passes _ _ _ _ reply a.1 in
     let d = passes _ _ _ _ reply b.1 in
@@ -81,24 +76,21 @@ tiled_after log line (entry.Merged stream sh other number child) reply range h s
     let opens = and_parts _ _ (holds_so _ d.0) in
     chosen (stream == s) _ _
     (λ same.
-    let to = equal_so stream s same in
+    let target = equal_so stream s same in
     merge_there (shards log s) sh other _ start _ _ _ _ _ refl refl
-    (subst (λ k. is_open_at (shard_at log k sh) ≡ true) to opens.0)
-    (subst (λ k. is_open_at (shard_at log k other) ≡ true) to opens.1)
-    (subst (λ k. are_adjacent (range_of (shard_at log k sh)) (range_of (shard_at log k other)) ≡ true) to
+    (subst (λ k. is_open_at (shard_at log k sh) ≡ true) target opens.0)
+    (subst (λ k. is_open_at (shard_at log k other) ≡ true) target opens.1)
+    (subst (λ k. are_adjacent (range_of (shard_at log k sh)) (range_of (shard_at log k other)) ≡ true) target
     (holds_so _ e.0))
-    (before made))
-    (λ other. before made)
-tiled_after log line _ reply range h s start before made = before made
+    (is_before made))
+    (λ other. is_before made)
+tiled_after log line _ reply range h s start is_before made = is_before made
 
--- In a legal journal, the shards of each stream that was made are tiled: each hash key is in exactly one open shard
--- (`IsTiled`).
 pub tiled : (log : Journal) → IsLegal log → (s : ℕ) → was_made log s ≡ true → IsTiled (shards log s)
 tiled [] legal s made = absurd cc
 tiled (line ∷ log) legal s made =
     tiled_after log line line.what legal.0.reply legal.0.in_range legal.0.allowed s (next_number (line ∷ log) s)
     (tiled log legal.1 s) made
 
--- In a legal journal, the ranges of the open shards of each stream partition the hash keys (`HasPartitions`).
 pub partitions : (log : Journal) → IsLegal log → HasPartitions log
 partitions log legal s made k below = same_times (shards log s) k ∙ (tiled log legal s made).times k below

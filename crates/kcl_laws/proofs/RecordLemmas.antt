@@ -1,5 +1,4 @@
--- The sequence numbers of a shard's records rise from the shard's starting sequence number on. The byte count of each
--- record is the length of its payload and its key together.
+-- Sequence numbers rise from the shard's starting one on, and byte counts are correct.
 use Rattle.std.proofs.Common.{◌≡◌, ℕ, ◌+◌, ◌≤◌, Bool, true, false, List, [], ◌∷◌, ◌++◌, length, Option, Some, None}
 use Rattle.std.proofs.Common.{refl, sym, ap, subst, arith}
 use Rattle.std.specs.Prelude.{◌==◌, ◌&&◌, if◌then◌else◌}
@@ -34,18 +33,16 @@ rise_on p (r ∷ rs) q is = (is.0, rise_on (r.seq + 1) rs q is.1)
 
 rise_from : (start p : ℕ) (rs : List Logged) (q : ℕ) → start ≤ q → AllByRecursion (λ (r : Logged). start ≤ r.seq) rs
     → IsRising p rs q → RiseBetween start rs q
-rise_from start p [] q le from is = le
-rise_from start p (r ∷ rs) q le from is = (from.0, rise_on (r.seq + 1) rs q is.1)
+rise_from start p [] q le is_from is = le
+rise_from start p (r ∷ rs) q le is_from is = (is_from.0, rise_on (r.seq + 1) rs q is.1)
 
 drawn_of : (start : ℕ) (o : Option ShardState) (rs : List Logged) (q : ℕ)
     → ((x : ShardState) → o ≡ Some x → x.start ≤ q) → AllByRecursion (IsFrom o) rs
     → IsRising 1 rs q → RiseBetween (start_of o) rs q
-drawn_of start None [] q below from is = omega arith
-drawn_of start None (r ∷ rs) q below from is = absurd from.0
-drawn_of start (Some x) rs q below from is = rise_from x.start 1 rs q (below x refl) from is
+drawn_of start None [] q below is_from is = omega arith
+drawn_of start None (r ∷ rs) q below is_from is = absurd is_from.0
+drawn_of start (Some x) rs q below is_from is = rise_from x.start 1 rs q (below x refl) is_from is
 
--- In a legal journal, the numbers of a shard's records rise from the shard's starting sequence number on, and are below
--- the stream's next sequence number (`AreDrawn`).
 pub all_drawn : (log : Journal) → IsLegal log → (s sh : ℕ) → AreDrawn log s sh
 all_drawn log legal s sh =
     drawn_of 0 (shard_at log s sh) (records log s sh) (next_number log s)
@@ -70,7 +67,7 @@ next_by log line (entry.Put stream shard number hash bytes key_bytes) reply s h 
     one_more (stream == s) s stream (next_number log stream) refl d.0
     (λ is. subst (λ k. next_number log k ≤ last_number) (sym (equal_so stream s is)) le)
     (next_number log s) le (λ is. ap (next_number log) (equal_so stream s is))
-next_by log line (entry.Split stream shard at number low high) reply s h le =
+next_by log line (entry.Split stream shard key_hash number low high) reply s h le =
     let a = passes _ _ _ _ reply h in
     let b = passes _ _ _ _ reply a.1 in
     let d = passes _ _ _ _ reply b.1 in
@@ -91,35 +88,32 @@ next_by log line (entry.Merged stream shard other number child) reply s h le =
     (λ is. ap (next_number log) (equal_so stream s is))
 next_by log line _ reply s h le = omega arith
 
--- In a legal journal, the next sequence number of a stream fits into a `u64`.
 pub next_fits : (log : Journal) → IsLegal log → (s : ℕ) → next_number log s ≤ last_number
 next_fits [] legal s = omega arith
 next_fits (line ∷ log) legal s = next_by log line line.what legal.0.reply s legal.0.allowed (next_fits log legal.1 s)
 
 -- ---- Bytes
 
--- If the entry is a put, its byte counts are the lengths of the line's payload and key, and their sum is within the
--- limit of a record.
 IsSizedEntry : Line → Entry → Type 0
 IsSizedEntry line (entry.Put s sh number hash bytes key_bytes) =
     (bytes ≡ length line.payload) × (key_bytes ≡ length line.key)
     × (length line.payload + length line.key ≤ RECORD_BYTES)
 IsSizedEntry line _ = Unit {0}
 
--- Each put among the lines has the byte counts of its line's payload and key (`IsSizedEntry`).
+-- Each put among the lines has the byte counts of its payload and key.
 abbrev AreSized : List Line → Type 0
 AreSized ls = AllByRecursion (λ l. IsSizedEntry l l.what) ls
 
-sized_if : (b : Bool) (before : List Logged) (r : Logged) → IsSized r → AllByRecursion IsSized before
-    → AllByRecursion IsSized (if b then before ++ (r ∷ []) else before)
-sized_if true before r new old = all_push IsSized before r old new
-sized_if false before r new old = old
+sized_if : (b : Bool) (earlier : List Logged) (r : Logged) → IsSized r → AllByRecursion IsSized earlier
+    → AllByRecursion IsSized (if b then earlier ++ (r ∷ []) else earlier)
+sized_if true earlier r new old = all_push IsSized earlier r old new
+sized_if false earlier r new old = old
 
-sized_by : (line : Line) (e : Entry) (s sh : ℕ) (before : List Logged) → IsSizedEntry line e
-    → AllByRecursion IsSized before
-    → AllByRecursion IsSized (records_after line e s sh before)
+sized_by : (line : Line) (e : Entry) (s sh : ℕ) (earlier : List Logged) → IsSizedEntry line e
+    → AllByRecursion IsSized earlier
+    → AllByRecursion IsSized (records_after line e s sh earlier)
 unfolding IsSizedEntry
-sized_by line (entry.Put stream shard number hash bytes key_bytes) s sh before is old =
+sized_by line (entry.Put stream shard number hash bytes key_bytes) s sh earlier is old =
     let r : Logged = record {
       seq = number;
       arrival = line.clock;
@@ -127,8 +121,8 @@ sized_by line (entry.Put stream shard number hash bytes key_bytes) s sh before i
       key = line.key;
       payload = line.payload;
     } in
-    sized_if ((stream == s) && (shard == sh)) before r (omega (arith, is.0, is.1), omega (arith, is.0, is.1, is.2)) old
-sized_by line _ s sh before is old = old
+    sized_if ((stream == s) && (shard == sh)) earlier r (omega (arith, is.0, is.1), omega (arith, is.0, is.1, is.2)) old
+sized_by line _ s sh earlier is old = old
 
 sized_records : (log : Journal) (s sh : ℕ) → AreSized log → AllByRecursion IsSized (records log s sh)
 sized_records [] s sh are = tt
@@ -137,20 +131,18 @@ sized_records (line ∷ log) s sh are =
 
 -- ---- The lines of a history
 
-line_sized : (log : Journal) (c by : ℕ) (what : Command) (line : Line) → IsAdded log c by what line
-    → IsLawfulCommand what → IsSizedEntry line line.what
+line_sized : (log : Journal) (c actor : ℕ) (command : Command) (line : Line) → IsAdded log c actor command line
+    → IsLawfulCommand command → IsSizedEntry line line.what
 unfolding IsSizedEntry
-line_sized log c by _ _ (Alone _ _ _ (Puts name item s named fits)) is = (refl, refl, is.1.bytes)
-line_sized log c by _ _ (Stored_one name items before s n item among) is =
+line_sized log c actor _ _ (Alone _ _ _ (Puts name item s named fits)) is = (refl, refl, is.1.bytes)
+line_sized log c actor _ _ (Stored_one name items old s n item among) is =
     (refl, refl, (of_all IsItem items item among is.1.each).bytes)
-line_sized log c by _ _ _ is = tt
+line_sized log c actor _ _ _ is = tt
 
 sized_journal : (h : List Turn) → IsHistory h → AreSized (journal h)
 sized_journal h lawful =
     each_journal (λ line. IsSizedEntry line line.what) IsLawful (λ log c turn is line added.
     line_sized log c turn.by turn.what line added is.1) h lawful
 
--- In the journal of a history of lawful turns, the byte count of each record is that of its payload and key together,
--- and fits into one batch (`IsSized`).
 pub all_sized : (h : List Turn) → IsHistory h → (s sh : ℕ) → AllByRecursion IsSized (records (journal h) s sh)
 all_sized h lawful s sh = sized_records (journal h) s sh (sized_journal h lawful)

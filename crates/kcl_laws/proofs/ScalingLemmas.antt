@@ -1,7 +1,6 @@
--- The lines of a scaling (UpdateShardCount) are good, because each of them is that of a merge or a split that would be
--- accepted by itself.
+-- The lines of a scaling are good, because each is a merge or split that would be accepted by itself.
 use Rattle.std.proofs.Common.{◌≡◌, ℕ, zero, suc, ◌+◌, ◌-◌, ◌^◌, ◌<◌, ◌≤◌, Bool, true, false, List, [], ◌∷◌, ◌++◌}
-use Rattle.std.proofs.Common.{length, map, Option, Some, None, refl, sym, ap, subst, ◌∙◌, arith, length-append}
+use Rattle.std.proofs.Common.{length, map, Option, Some, None, refl, sym, ap, subst, ◌∙◌, arith}
 use Rattle.std.specs.Prelude.{◌==◌, ◌&&◌, ◌||◌, cond, is_none, not, nat_le, nat_lt, if◌then◌else◌}
 use Rattle.std.specs.List.{AllByRecursion, filter}
 use Rattle.std.proofs.lemmas.Bool.Decides.{nat_tests}
@@ -26,7 +25,7 @@ use Rattle.kds_defs.specs.Shards.{shards_after, split_shards, was_closed_below}
 use Rattle.kds_defs.specs.StreamCommands.{is_open_at, last_number}
 use Rattle.kds_defs.specs.Streams.{is_live, live_streams, made_count, numbers_from, trim_floor, was_made}
 use Rattle.kds_defs.proofs.Decisions.{passes, holds_so, passed_if}
-use Rattle.kds_defs.proofs.Numbers.{length-closed}
+use Rattle.kds_defs.proofs.Counted.{length_merged, length_split}
 use Rattle.kds_scale.proofs.Leading.{leads}
 use Rattle.kds_scale.proofs.Partitions.{IsBounded, IsScalable, Joins, Cuts, after_cut, after_join, below_wanted}
 use Rattle.kds_scale.proofs.Partitions.{bounded_merged, bounded_new, bounded_split, cuts, joins, joins_touch}
@@ -39,8 +38,8 @@ use Rattle.kcl_laws.proofs.PartitionLemmas.{tiled}
 
 -- ---- The ends of a stream's shards lie below 2^128
 
-inside_below : (r : Span) (at : ℕ) → is_inside r at ≡ true → r.end < 2 ^ 128 → at < 2 ^ 128
-inside_below r at h g = let to : at ≤ r.end = grind (arith, nat_tests) in omega arith
+inside_below : (r : Span) (hash : ℕ) → is_inside r hash ≡ true → r.end < 2 ^ 128 → hash < 2 ^ 128
+inside_below r hash h g = let is_to : hash ≤ r.end = grind (arith, nat_tests) in omega arith
 
 chosen : (b : Bool) (xs ys : List ShardState) → AllByRecursion IsBounded xs → AllByRecursion IsBounded ys
     → AllByRecursion IsBounded (if b then xs else ys)
@@ -51,21 +50,21 @@ bounded_after : (log : Journal) (line : Line) (e : Entry) (reply : Reply) → Is
     → told log line e ≡ Accepted (line ∷ []) reply
     → ((s : ℕ) → AllByRecursion IsBounded (shards log s)) → (s start : ℕ)
     → AllByRecursion IsBounded (shards_after line e s start (shards log s))
-bounded_after log line (entry.Made stream name count) reply range h before s start =
-    chosen (stream == s) _ _ (bounded_new count start range.0 range.1) (before s)
-bounded_after log line (entry.Split stream sh at number low high) reply range h before s start =
+bounded_after log line (entry.Made stream name count) reply range h old s start =
+    chosen (stream == s) _ _ (bounded_new count start range.0 range.1) (old s)
+bounded_after log line (entry.Split stream sh hash number low high) reply range h old s start =
     let a = passes _ _ _ _ reply h in
     let b = passes _ _ _ _ reply a.1 in
     let d = passes _ _ _ _ reply b.1 in
     let e = passes _ _ _ _ reply d.1 in
-    let fits = inside_below (range_of (shard_at log stream sh)) at (holds_so _ e.0)
-    (range_bounded (shards log stream) sh _ refl (before stream)) in
-    chosen (stream == s) _ _ (bounded_split (shards log s) sh at (closing_of line number) start fits (before s))
-    (before s)
-bounded_after log line (entry.Merged stream sh other number child) reply range h before s start =
-    chosen (stream == s) _ _ (bounded_merged (shards log s) sh other (closing_of line number) start (before s))
-    (before s)
-bounded_after log line _ reply range h before s start = before s
+    let fits = inside_below (range_of (shard_at log stream sh)) hash (holds_so _ e.0)
+    (range_bounded (shards log stream) sh _ refl (old stream)) in
+    chosen (stream == s) _ _ (bounded_split (shards log s) sh hash (closing_of line number) start fits (old s))
+    (old s)
+bounded_after log line (entry.Merged stream sh other number child) reply range h old s start =
+    chosen (stream == s) _ _ (bounded_merged (shards log s) sh other (closing_of line number) start (old s))
+    (old s)
+bounded_after log line _ reply range h old s start = old s
 
 bounded : (log : Journal) → IsLegal log → (s : ℕ) → AllByRecursion IsBounded (shards log s)
 bounded [] legal s = tt
@@ -98,16 +97,16 @@ both_so false b h g = absurd cc
 -- ---- A merge
 
 join_line : Journal → ℕ → ℕ → ℕ → ℕ → Line
-join_line log c by s b = plain_line c by (step_entry log s (Join b))
+join_line log c actor s b = plain_line c actor (step_entry log s (Join b))
 
 room_join : (last l n : ℕ) → n + 1 ≤ last → l + 1 ≤ last → (nat_lt last l || (n == last)) ≡ false
 room_join last l n h g = grind (arith, nat_tests)
 
-join_good : (log : Journal) (c by s b : ℕ) → is_live log s ≡ true → Joins (shards log s) b
+join_good : (log : Journal) (c actor s b : ℕ) → is_live log s ≡ true → Joins (shards log s) b
     → next_number log s + 1 ≤ last_number → length (shards log s) + 1 ≤ last_number → last_clock log ≤ c
-    → IsGood log (join_line log c by s b)
+    → IsGood log (join_line log c actor s b)
 unfolding join_line
-join_good log c by s b live j more made order =
+join_good log c actor s b live j more made order =
     let low = j.low_home in
     let high = j.high_home in
     let listed = both_so _ _ (listed_open log c s _ j.low low.stands live low.is_open_now)
@@ -130,24 +129,19 @@ join_good log c by s b live j more made order =
           ∙ passed_if refusal.Spent _ _ (room_join last_number (length (shards log s)) (next_number log s) more made);
     }
 
-shards_join : (log : Journal) (c by s b : ℕ)
-    → shards (join_line log c by s b ∷ log) s
+shards_join : (log : Journal) (c actor s b : ℕ)
+    → shards (join_line log c actor s b ∷ log) s
     ≡ after_join (shards log s) b (record { number = next_number log s; clock = c })
-    (next_number (join_line log c by s b ∷ log) s)
+    (next_number (join_line log c actor s b ∷ log) s)
 unfolding join_line
-shards_join log c by s b =
+shards_join log c actor s b =
     ap (λ r. if r then after_join (shards log s) b (record { number = next_number log s; clock = c })
-    (next_number (join_line log c by s b ∷ log) s) else shards log s) (is_itself s)
-
-length_join : (xs : List ShardState) (sh other : ℕ) (closing : Closing) (start : ℕ)
-    → length (merged_shards sh other closing start xs) ≡ length xs + 1
-length_join xs sh other closing start =
-    length-append _ _ ∙ ap (λ n. n + 1) (length-closed other closing _ ∙ length-closed sh closing xs)
+    (next_number (join_line log c actor s b ∷ log) s) else shards log s) (is_itself s)
 
 -- ---- A split
 
 cut_line : Journal → ℕ → ℕ → ℕ → ℕ → Line
-cut_line log c by s b = plain_line c by (step_entry log s (Cut b))
+cut_line log c actor s b = plain_line c actor (step_entry log s (Cut b))
 
 room_cut : (last l n : ℕ) → n + 1 ≤ last → l + 2 ≤ last → (nat_lt last (l + 1) || (n == last)) ≡ false
 room_cut last l n h g = grind (arith, nat_tests)
@@ -155,42 +149,38 @@ room_cut last l n h g = grind (arith, nat_tests)
 not_full : (n : ℕ) → n < 500 → nat_le 500 n ≡ false
 not_full n h = grind (arith, nat_tests)
 
-cut_good : (log : Journal) (c by s b : ℕ) → is_live log s ≡ true → Cuts (shards log s) b → open_count log < OPEN_SHARDS
+cut_good : (log : Journal) (c actor s b : ℕ) → is_live log s ≡ true → Cuts (shards log s) b
+    → open_count log < OPEN_SHARDS
     → next_number log s + 1 ≤ last_number → length (shards log s) + 2 ≤ last_number → last_clock log ≤ c
-    → IsGood log (cut_line log c by s b)
+    → IsGood log (cut_line log c actor s b)
 unfolding cut_line
-cut_good log c by s b live k few more made order =
-    let at = k.is_home in
+cut_good log c actor s b live k few more made order =
+    let hash = k.is_home in
     let inside : is_inside (range_of (shard_at log s (home log s b))) b ≡ true =
-    ap (λ o. is_inside (range_of o) b) at.stands ∙ k.inside in
+    ap (λ o. is_inside (range_of o) b) hash.stands ∙ k.inside in
     record {
       in_order = order;
       in_range = tt;
       reply = replies.Done;
       allowed = in_live log s _ live
-          ∙ passed_if refusal.NoShard _ _ (ap not (listed_open log c s _ k.shard at.stands live at.is_open_now))
-          ∙ passed_if refusal.ShardClosed _ _ (ap not (ap is_open_at at.stands ∙ at.is_open_now))
+          ∙ passed_if refusal.NoShard _ _ (ap not (listed_open log c s _ k.shard hash.stands live hash.is_open_now))
+          ∙ passed_if refusal.ShardClosed _ _ (ap not (ap is_open_at hash.stands ∙ hash.is_open_now))
           ∙ passed_if refusal.BadSplit _ _ (ap not inside)
           ∙ passed_if refusal.Full _ _ (not_full (open_count log) few)
           ∙ passed_if refusal.Spent _ _ (room_cut last_number (length (shards log s)) (next_number log s) more made);
     }
 
-shards_cut : (log : Journal) (c by s b : ℕ)
-    → shards (cut_line log c by s b ∷ log) s
+shards_cut : (log : Journal) (c actor s b : ℕ)
+    → shards (cut_line log c actor s b ∷ log) s
     ≡ after_cut (shards log s) b (record { number = next_number log s; clock = c })
-    (next_number (cut_line log c by s b ∷ log) s)
+    (next_number (cut_line log c actor s b ∷ log) s)
 unfolding cut_line
-shards_cut log c by s b =
+shards_cut log c actor s b =
     ap (λ r. if r then after_cut (shards log s) b (record { number = next_number log s; clock = c })
-    (next_number (cut_line log c by s b ∷ log) s) else shards log s) (is_itself s)
-
-length_cut : (xs : List ShardState) (sh at : ℕ) (closing : Closing) (start : ℕ)
-    → length (split_shards sh at closing start xs) ≡ length xs + 2
-length_cut xs sh at closing start = length-append _ _ ∙ ap (λ n. n + 2) (length-closed sh closing xs)
+    (next_number (cut_line log c actor s b ∷ log) s) else shards log s) (is_itself s)
 
 -- ---- The open shards of the other streams
 
--- Those of the streams `ts` that aren't `s`.
 others : ℕ → List ℕ → List ℕ
 others s ts = filter (λ t. not (t == s)) ts
 
@@ -211,24 +201,24 @@ elsewhere_in log log' s (t ∷ ts) h =
 other_stream : (s t : ℕ) → not (t == s) ≡ true → (s == t) ≡ false
 other_stream s t h = grind (arith, nat_tests)
 
-elsewhere_join : (log : Journal) (c by s b : ℕ) → open_elsewhere (join_line log c by s b ∷ log) s ≡ open_elsewhere log s
+elsewhere_join : (log : Journal) (c actor s b : ℕ) → open_elsewhere (join_line log c actor s b ∷ log) s
+    ≡ open_elsewhere log s
 unfolding join_line others
-elsewhere_join log c by s b =
-    elsewhere_in log (join_line log c by s b ∷ log) s (live_streams log)
+elsewhere_join log c actor s b =
+    elsewhere_in log (join_line log c actor s b ∷ log) s (live_streams log)
     (λ t differ. ap (λ r.
     if r then merged_shards (home log s (b - 1)) (home log s b)
-    (record { number = next_number log s; clock = c }) (next_number (join_line log c by s b ∷ log) t)
+    (record { number = next_number log s; clock = c }) (next_number (join_line log c actor s b ∷ log) t)
     (shards log t) else shards log t) (other_stream s t differ))
 
-elsewhere_cut : (log : Journal) (c by s b : ℕ) → open_elsewhere (cut_line log c by s b ∷ log) s ≡ open_elsewhere log s
+elsewhere_cut : (log : Journal) (c actor s b : ℕ) → open_elsewhere (cut_line log c actor s b ∷ log) s
+    ≡ open_elsewhere log s
 unfolding cut_line others
-elsewhere_cut log c by s b =
-    elsewhere_in log (cut_line log c by s b ∷ log) s (live_streams log)
+elsewhere_cut log c actor s b =
+    elsewhere_in log (cut_line log c actor s b ∷ log) s (live_streams log)
     (λ t differ. ap (λ r. if r then split_shards (home log s b) b (record { number = next_number log s; clock = c })
-    (next_number (cut_line log c by s b ∷ log) t) (shards log t) else shards log t) (other_stream s t differ))
+    (next_number (cut_line log c actor s b ∷ log) t) (shards log t) else shards log t) (other_stream s t differ))
 
--- If the streams `us` have as many open shards as the streams of `us` other than `s`, then this is also true of `us`
--- with the stream `t` in front. Here `t` isn't `s`, and `b` says whether `t` is added.
 beyond_by : (b d : Bool) (log : Journal) (t s : ℕ) (us : List ℕ) → not (t == s) ≡ d → d ≡ true
     → open_in log us ≡ open_in log (others s us)
     → open_in log (cond b (t ∷ us) us) ≡ open_in log (others s (cond b (t ∷ us) us))
@@ -239,7 +229,7 @@ beyond_by true true log t s us is differs rest =
 beyond_by true false log t s us is differs rest = absurd cc
 beyond_by false d log t s us is differs rest = rest
 
-apart_from : (t s : ℕ) → s < t → not (t == s) ≡ true
+pub apart_from : (t s : ℕ) → s < t → not (t == s) ≡ true
 apart_from t s h = grind (arith, nat_tests)
 
 beyond : (log : Journal) (s k n : ℕ) → s < k → open_in log (filter (is_live log) (numbers_from k n))
@@ -288,17 +278,18 @@ cuts_length [] starts wanted h = omega (arith, ap length h)
 cuts_length (b ∷ cs) starts wanted h =
     omega (arith, cuts_length cs (with_start b starts) wanted h.1, length_with b starts)
 
-adds_cuts : (cs starts wanted : List ℕ) (log : Journal) (c by s : ℕ) → is_live log s ≡ true → IsScalable (shards log s)
+adds_cuts : (cs starts wanted : List ℕ) (log : Journal) (c actor s : ℕ) → is_live log s ≡ true
+    → IsScalable (shards log s)
     → open_starts (shards log s) ≡ starts
     → LeadTo (map Cut cs) starts wanted → AllByRecursion (λ b. b < 2 ^ 128) cs
     → open_elsewhere log s + length wanted ≤ OPEN_SHARDS
     → next_number log s + length (map Cut cs) ≤ last_number → length (shards log s) + made_by (map Cut cs) ≤ last_number
-    → IsLegal log → last_clock log ≤ c → Adds log (step_lines log c by s (map Cut cs)) c
+    → IsLegal log → last_clock log ≤ c → Adds log (step_lines log c actor s (map Cut cs)) c
 unfolding cut_line
-adds_cuts [] starts wanted log c by s live ok is lead below room more made legal order =
+adds_cuts [] starts wanted log c actor s live ok is lead below room more made legal order =
     record { legal = legal; clock = order }
-adds_cuts (b ∷ cs) starts wanted log c by s live ok is lead below room more made legal order =
-    let line = cut_line log c by s b in
+adds_cuts (b ∷ cs) starts wanted log c actor s live ok is lead below room more made legal order =
+    let line = cut_line log c actor s b in
     let absent = ap (λ xs. is_start xs b) is ∙ lead.0 in
     let k = cuts (shards log s) b ok below.0 absent in
     let few : open_count log < OPEN_SHARDS =
@@ -311,40 +302,40 @@ adds_cuts (b ∷ cs) starts wanted log c by s live ok is lead below room more ma
       ap length is,
       length_starts (open_shards log s),
     ) in
-    let good = cut_good log c by s b live k few (omega arith) (omega arith) order in
-    let next_shards = shards_cut log c by s b in
-    let rest = adds_cuts cs (with_start b starts) wanted (line ∷ log) c by s live
+    let good = cut_good log c actor s b live k few (omega arith) (omega arith) order in
+    let next_shards = shards_cut log c actor s b in
+    let rest = adds_cuts cs (with_start b starts) wanted (line ∷ log) c actor s live
     (subst IsScalable (sym next_shards) (scalable_cut (shards log s) b _ _ ok below.0 k))
     (ap open_starts next_shards ∙ starts_cut (shards log s) b _ _ ok absent k ∙ ap (with_start b) is)
     lead.1 below.1
-    (omega (arith, room, elsewhere_cut log c by s b))
+    (omega (arith, room, elsewhere_cut log c actor s b))
     (omega (arith, more, draws_one s (next_number log s) (next_number log s) refl))
-    (omega (arith, made, ap length next_shards ∙ length_cut (shards log s) _ b _ _))
+    (omega (arith, made, ap length next_shards ∙ length_split _ b _ _ (shards log s)))
     (good, legal) (omega arith) in
     record { legal = rest.legal; clock = rest.clock }
 
-adds_joins : (bs cs starts wanted : List ℕ) (log : Journal) (c by s : ℕ) → is_live log s ≡ true
+adds_joins : (bs cs starts wanted : List ℕ) (log : Journal) (c actor s : ℕ) → is_live log s ≡ true
     → IsScalable (shards log s) → open_starts (shards log s) ≡ starts
     → LeadTo (map Join bs ++ map Cut cs) starts wanted → AllByRecursion (λ b. b < 2 ^ 128) cs
     → open_elsewhere log s + length wanted ≤ OPEN_SHARDS
     → next_number log s + length (map Join bs ++ map Cut cs) ≤ last_number
     → length (shards log s) + made_by (map Join bs ++ map Cut cs) ≤ last_number
-    → IsLegal log → last_clock log ≤ c → Adds log (step_lines log c by s (map Join bs ++ map Cut cs)) c
+    → IsLegal log → last_clock log ≤ c → Adds log (step_lines log c actor s (map Join bs ++ map Cut cs)) c
 unfolding join_line
-adds_joins [] cs starts wanted log c by s live ok is lead below room more made legal order =
-    adds_cuts cs starts wanted log c by s live ok is lead below room more made legal order
-adds_joins (b ∷ bs) cs starts wanted log c by s live ok is lead below room more made legal order =
-    let line = join_line log c by s b in
+adds_joins [] cs starts wanted log c actor s live ok is lead below room more made legal order =
+    adds_cuts cs starts wanted log c actor s live ok is lead below room more made legal order
+adds_joins (b ∷ bs) cs starts wanted log c actor s live ok is lead below room more made legal order =
+    let line = join_line log c actor s b in
     let j = joins (shards log s) b ok lead.0.0 (ap (λ xs. is_start xs b) is ∙ lead.0.1) in
-    let good = join_good log c by s b live j (omega arith) (omega arith) order in
-    let next_shards = shards_join log c by s b in
-    let rest = adds_joins bs cs (without b starts) wanted (line ∷ log) c by s live
+    let good = join_good log c actor s b live j (omega arith) (omega arith) order in
+    let next_shards = shards_join log c actor s b in
+    let rest = adds_joins bs cs (without b starts) wanted (line ∷ log) c actor s live
     (subst IsScalable (sym next_shards) (scalable_joined (shards log s) b _ _ ok j))
     (ap open_starts next_shards ∙ starts_joined (shards log s) b _ _ ok lead.0.0 j ∙ ap (without b) is)
     lead.1 below
-    (omega (arith, room, elsewhere_join log c by s b))
+    (omega (arith, room, elsewhere_join log c actor s b))
     (omega (arith, more, draws_one s (next_number log s) (next_number log s) refl))
-    (omega (arith, made, ap length next_shards ∙ length_join (shards log s) _ _ _ _))
+    (omega (arith, made, ap length next_shards ∙ length_merged _ _ _ _ (shards log s)))
     (good, legal) (omega arith) in
     record { legal = rest.legal; clock = rest.clock }
 
@@ -358,19 +349,17 @@ filtered p (x ∷ xs) h = kept (p x) x (filter p xs) h.0 (filtered p xs h.1)
     kept true x ys h g = (h, g)
     kept false x ys h g = g
 
--- The lines of a scaling of the live stream `s` to `target` shards (1 to 500) may be added to a legal journal (`Adds`).
--- The conditions are that the limit on open shards is kept, and that enough sequence numbers and shard numbers are
--- left.
-pub adds_scaling : (log : Journal) (c by s target : ℕ) → is_live log s ≡ true → 1 ≤ target → target ≤ 500
+-- A scaling within its limits leaves a legal journal legal.
+pub adds_scaling : (log : Journal) (c actor s target : ℕ) → is_live log s ≡ true → 1 ≤ target → target ≤ 500
     → open_elsewhere log s + target ≤ OPEN_SHARDS
     → next_number log s + length (steps_to log s target) ≤ last_number
     → length (shards log s) + made_by (steps_to log s target) ≤ last_number
-    → IsLegal log → last_clock log ≤ c → Adds log (step_lines log c by s (steps_to log s target)) c
-adds_scaling log c by s target live least most room more made legal order =
+    → IsLegal log → last_clock log ≤ c → Adds log (step_lines log c actor s (steps_to log s target)) c
+adds_scaling log c actor s target live least most room more made legal order =
     let ok = scalable log legal s (made_if_live log s live) in
     let starts = open_starts (shards log s) in
     let wanted = uniform_starts target in
-    adds_joins (left_out wanted starts) (left_out starts wanted) starts wanted log c by s live ok refl
+    adds_joins (left_out wanted starts) (left_out starts wanted) starts wanted log c actor s live ok refl
     (leads starts wanted (rise_open (shards log s) ok) (rise_wanted target least most) (wanted_zero target least))
     (filtered _ wanted (below_wanted target least most))
     (omega (arith, room, length_wanted target)) more made legal order

@@ -1,5 +1,4 @@
--- If a journal is legal, so is the journal that its text shows, in which zero bytes replace the keys and payloads of
--- puts.
+-- If a journal is legal, so is the journal that its text shows.
 use Rattle.std.proofs.Common.{◌≡◌, ℕ, zero, suc, ◌+◌, ◌≤◌, Bool, true, false, List, [], ◌∷◌, length, map, slice_get}
 use Rattle.std.proofs.Common.{Option, Some, None, refl, sym, ap, subst, ◌∙◌}
 use Rattle.std.specs.Prelude.{◌==◌, ◌&&◌, ◌||◌, not, is_some, nat_le, nat_lt, if◌then◌else◌}
@@ -30,8 +29,7 @@ use Rattle.kcl_laws.proofs.ShownReadings.{clock_is, ends_is, enforced_is, home_i
 use Rattle.kcl_laws.proofs.ShownReadings.{made_is, named_is, next_is, numbers_are, open_is, origin_is, puts_are, row_is}
 use Rattle.kcl_laws.proofs.ShownReadings.{shards_are, streams_are, taken_is, tenure_is}
 
--- If the first decision accepts, the second accepts too, with the lines that the text shows for the lines of the first.
--- Nothing is claimed if the first decision refuses.
+-- If the first decision accepts, so does the second, with the lines that the text shows.
 abbrev Shows : Decision → Decision → Type 0
 Shows (Refused r) d = Unit {0}
 Shows (Accepted lines reply) (Refused r) = ⊥
@@ -57,17 +55,15 @@ live_past : (log : Journal) (s : ℕ) (d d' : Decision) → Shows d d'
     → Shows (in_stream log s d) (in_stream (shown_journal log) s d')
 live_past log s d d' h = past _ _ _ _ _ _ (ap not (live_is log s)) h
 
-tenure_past : (log : Journal) (by t : ℕ) (f f' : TenureState → Decision) → ((T : TenureState) → Shows (f T) (f' T))
-    → Shows (with_tenure log by t f) (with_tenure (shown_journal log) by t f')
-tenure_past log by t f f' h = past_with _ _ _ _ _ _ (tenure_is log t) (λ T. past _ _ _ _ _ _ refl (h T))
+tenure_past : (log : Journal) (actor t : ℕ) (f f' : TenureState → Decision) → ((T : TenureState) → Shows (f T) (f' T))
+    → Shows (with_tenure log actor t f) (with_tenure (shown_journal log) actor t f')
+tenure_past log actor t f f' h = past_with _ _ _ _ _ _ (tenure_is log t) (λ T. past _ _ _ _ _ _ refl (h T))
 
-held_past : (log : Journal) (by t : ℕ) (f f' : TenureState → Decision) → ((T : TenureState) → Shows (f T) (f' T))
-    → Shows (with_held log by t f) (with_held (shown_journal log) by t f')
-held_past log by t f f' h =
-    tenure_past log by t _ _ (λ T. past _ _ _ _ _ _ (λ i. not (tenure_in (row_is log T.key i) == t)) (h T))
+held_past : (log : Journal) (actor t : ℕ) (f f' : TenureState → Decision) → ((T : TenureState) → Shows (f T) (f' T))
+    → Shows (with_held log actor t f) (with_held (shown_journal log) actor t f')
+held_past log actor t f f' h =
+    tenure_past log actor t _ _ (λ T. past _ _ _ _ _ _ (λ i. not (tenure_in (row_is log T.key i) == t)) (h T))
 
--- If `Shows` holds of the decisions `d` and `d'`, it also holds of the two decisions that first test the row's counter.
--- This test has the same outcome in a journal and in the journal that its text shows.
 counter_past : (log : Journal) (key : ShardRef) (counter : ℕ) (r r' : Refusal) (d d' : Decision) → Shows d d'
     → Shows (refuse r if not (counter_in (row log key) == counter) else d)
     (refuse r' if not (counter_in (row (shown_journal log) key) == counter) else d')
@@ -100,8 +96,8 @@ parents_past log c key d d' h =
     (past_parents (shown_journal log) c key.stream (slice_get xs key.shard) d')) (sym (shards_are log key.stream))
     (parents_of log c key.stream (shard_at log key.stream key.shard) d d' h)
 
-target_past : (log : Journal) (T : TenureState) (to : Target) (d d' : Decision) → Shows d d'
-    → Shows (past_target log T to d) (past_target (shown_journal log) T to d')
+target_past : (log : Journal) (T : TenureState) (goal : Target) (d d' : Decision) → Shows d d'
+    → Shows (past_target log T goal d) (past_target (shown_journal log) T goal d')
 target_past log T (target.At q) d d' h =
     past _ _ _ _ _ _ (λ i. is_marked_to_end (row_is log T.key i))
     (past _ _ _ _ _ _ refl
@@ -111,17 +107,17 @@ target_past log T target.End d d' h = past _ _ _ _ _ _ refl h
 
 -- ---- Each entry
 
-length-blank : (n : ℕ) → length (blank n) ≡ n
+pub length-blank : (n : ℕ) → length (blank n) ≡ n
 length-blank zero = refl
 length-blank (suc n) = ap suc (length-blank n)
 
--- If the entry is a put, its byte counts are the lengths of the line's payload and key.
+-- The byte counts of a put are the lengths of the line's payload and key.
 abbrev IsSized : Line → Entry → Type 0
 IsSized line (entry.Put s sh n hash bytes key_bytes) = (length line.payload ≡ bytes) × (length line.key ≡ key_bytes)
 IsSized line _ = Unit {0}
 
-shows_told : (log : Journal) (line : Line) (what : Entry) → line.what ≡ what → IsSized line what
-    → Shows (told log line what) (told (shown_journal log) (entry_line line.clock line.by what) what)
+shows_told : (log : Journal) (line : Line) (change : Entry) → line.what ≡ change → IsSized line change
+    → Shows (told log line change) (told (shown_journal log) (entry_line line.clock line.by change) change)
 shows_told log line (entry.Made s name count) is sized =
     past _ _ _ _ _ _ (ap is_some (named_is log name))
     (past _ _ _ _ _ _ (λ i. nat_le LIVE_STREAMS (length (streams_are log i))
@@ -145,15 +141,15 @@ shows_told log line (entry.Put s sh n hash bytes key_bytes) is sized = live_past
 
     key_len : length (blank key_bytes) ≡ length line.key
     key_len = length-blank key_bytes ∙ sym sized.1
-shows_told log line (entry.Split s sh at n low high) is sized = live_past log s _ _ (
+shows_told log line (entry.Split s sh key_hash n low high) is sized = live_past log s _ _ (
     past _ _ _ _ _ _ (ap not (listed_is log line.clock s sh))
     (past _ _ _ _ _ _ (λ i. not (is_open_at (slice_get (shards_are log s i) sh)))
-    (past _ _ _ _ _ _ (λ i. not (is_inside (range_of (slice_get (shards_are log s i) sh)) at))
+    (past _ _ _ _ _ _ (λ i. not (is_inside (range_of (slice_get (shards_are log s i) sh)) key_hash))
     (past _ _ _ _ _ _ (ap (nat_le OPEN_SHARDS) (open_is log))
     (past _ _ _ _ _ _ (λ i. nat_lt last_number (length (shards_are log s i) + 1) || next_is log s i
     == last_number)
     (λ i. plain_line line.clock line.by
-    (entry.Split s sh at (next_is log s i) (length (shards_are log s i)) (length (shards_are log s i) + 1))
+    (entry.Split s sh key_hash (next_is log s i) (length (shards_are log s i)) (length (shards_are log s i) + 1))
     ∷ []))))))
 shows_told log line (entry.Merged s sh other n child) is sized = live_past log s _ _ (
     past _ _ _ _ _ _ (λ i. not (listed_is log line.clock s sh i && listed_is log line.clock s other i))
@@ -168,11 +164,11 @@ shows_told log line (entry.Merged s sh other n child) is sized = live_past log s
 shows_told log line (entry.Kept s wanted) is sized = live_past log s _ _ (
     past _ _ _ _ _ _ (λ i. if not (nat_lt wanted (hours_is log s i)) then nat_lt wanted (hours_is log s i) else nat_lt
     (hours_is log s i) wanted) refl)
-shows_told log line (entry.Enforced s on) is sized = live_past log s _ _ refl
-shows_told log line (entry.LeaseMade key from) is sized =
+shows_told log line (entry.Enforced s is_on) is sized = live_past log s _ _ refl
+shows_told log line (entry.LeaseMade key origin) is sized =
     past _ _ _ _ _ _ (ap not (listed_is log line.clock key.stream key.shard))
     (past _ _ _ _ _ _ (ap is_some (row_is log key))
-    (λ i. plain_line line.clock line.by (entry.LeaseMade key (origin_is log key from i)) ∷ []))
+    (λ i. plain_line line.clock line.by (entry.LeaseMade key (origin_is log key origin i)) ∷ []))
 shows_told log line (entry.Taken key t counter owner) is sized =
     past_with _ _ _ _ _ _ (row_is log key)
     (λ r. past _ _ _ _ _ _ refl
@@ -197,22 +193,21 @@ shows_told log line (entry.Read t limit ended numbers) is sized =
     (entry.Read t limit (ends_is log line.clock T.key.stream T.key.shard (position_after (reach T) (ns i)) i) (ns i))
     ∷ []))))))
 shows_told log line (entry.Given t) is sized = tenure_past log line.by t _ _ (λ T. past _ _ _ _ _ _ refl refl)
-shows_told log line (entry.Marked t counter to) is sized =
+shows_told log line (entry.Marked t counter goal) is sized =
     held_past log line.by t _ _
-    (λ T. counter_past log T.key _ _ _ _ _ (target_past log T to _ _ (spent_past log T.key _ _ _ _ refl)))
+    (λ T. counter_past log T.key _ _ _ _ _ (target_past log T goal _ _ (spent_past log T.key _ _ _ _ refl)))
 shows_told log line (entry.LeaseCut key counter) is sized =
     past_with _ _ _ _ _ _ (row_is log key)
     (λ r. past _ _ _ _ _ _ refl (past _ _ _ _ _ _ (listed_is log line.clock key.stream key.shard) refl))
 
 -- ---- A good line
 
--- If two puts are the same entry, they have the same byte count of the payload and the same byte count of the key.
 same_bytes : (s s' h sh n n' hash hash' bytes bytes' k k' : ℕ)
     → entry.Put s h n hash bytes k ≡ entry.Put s' sh n' hash' bytes' k' → (bytes ≡ bytes') × (k ≡ k')
 same_bytes s s' h sh n n' hash hash' bytes bytes' k k' e = (cc, cc)
 
-good_sized : (log : Journal) (line : Line) (what : Entry) (reply : Reply) → line.what ≡ what
-    → told log line what ≡ Accepted (line ∷ []) reply → IsSized line what
+good_sized : (log : Journal) (line : Line) (change : Entry) (reply : Reply) → line.what ≡ change
+    → told log line change ≡ Accepted (line ∷ []) reply → IsSized line change
 good_sized log line (entry.Put s sh n hash bytes key_bytes) reply is h =
     let live = passes _ _ _ _ _ h in
     let admitted = passes _ _ _ _ _ live.1 in
@@ -238,14 +233,10 @@ shown_good log line g =
       allowed = so.1;
     }
 
--- If a journal is legal, it is still legal with zero bytes in place of the keys and payloads of puts
--- (`shown_journal`).
 pub shown_legal : (log : Journal) → IsLegal log → IsLegal (shown_journal log)
 shown_legal [] h = tt
 shown_legal (line ∷ log) h = (shown_good log line h.0, shown_legal log h.1)
 
--- If a journal is legal and none of its lines is later than `c`, the same is true of it with zero bytes in place of the
--- keys and payloads of puts (`shown_journal`).
 pub shown_reached : (log : Journal) (c : ℕ) → IsReached log c → IsReached (shown_journal log) c
 shown_reached log c h =
     record { legal = shown_legal log h.legal; order = subst (λ n. n ≤ c) (sym (clock_is log)) h.order }

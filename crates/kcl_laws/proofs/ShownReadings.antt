@@ -1,5 +1,4 @@
--- The journal that a text shows, in which zero bytes replace the keys and payloads of puts, has the same streams,
--- shards, record numbers, rows and tenures as the journal itself.
+-- The journal that a text shows has the same streams, shards, sequence numbers, rows and tenures.
 use Rattle.std.proofs.Common.{◌≡◌, ℕ, ◌+◌, ◌-◌, ◌*◌, max, Bool, true, false, List, [], ◌∷◌, ◌++◌, length, map}
 use Rattle.std.proofs.Common.{slice_get, Option, Some, None, refl, sym, ap, ◌∙◌}
 use Rattle.std.specs.Prelude.{◌==◌, ◌&&◌, ◌||◌, not, if◌then◌else◌}
@@ -36,14 +35,12 @@ use Rattle.kds_defs.specs.Streams.{made_count, made_count_after, name_of, name_o
 use Rattle.kds_defs.specs.Streams.{stream_named, trim_floor, was_made, was_made_after}
 use Rattle.kcl_laws.proofs.BareRecords.{beginning_bare, first_bare, left_bare, none_bare, numbers_bare}
 
--- The clock of the newest line is the same in the shown journal.
 pub clock_is : (log : Journal) → last_clock (shown_journal log) ≡ last_clock log
 clock_is [] = refl
 clock_is (line ∷ log) = refl
 
 -- ---- Streams
 
--- In the shown journal, as many streams were made as in the journal itself.
 pub made_is : (log : Journal) → made_count (shown_journal log) ≡ made_count log
 made_is [] = refl
 made_is (line ∷ log) = ap (made_count_after line.what) (made_is log)
@@ -52,7 +49,6 @@ was_is : (log : Journal) (s : ℕ) → was_made (shown_journal log) s ≡ was_ma
 was_is [] s = refl
 was_is (line ∷ log) s = ap (was_made_after line.what s) (was_is log s)
 
--- In the shown journal, the same streams are live.
 pub live_is : (log : Journal) (s : ℕ) → is_live (shown_journal log) s ≡ is_live log s
 live_is [] s = refl
 live_is (line ∷ log) s = ap (is_live_after line.what s) (live_is log s)
@@ -61,7 +57,6 @@ name_is : (log : Journal) (s : ℕ) → name_of (shown_journal log) s ≡ name_o
 name_is [] s = refl
 name_is (line ∷ log) s = ap (name_of_after line.what s) (name_is log s)
 
--- In the shown journal, each stream has the same retention.
 pub hours_is : (log : Journal) (s : ℕ) → hours (shown_journal log) s ≡ hours log s
 hours_is [] s = refl
 hours_is (line ∷ log) s = ap (hours_after line.what s) (hours_is log s)
@@ -75,37 +70,31 @@ floor_is (line ∷ log) s =
 trim_is : (log : Journal) (c s : ℕ) → trim_floor (shown_journal log) c s ≡ trim_floor log c s
 trim_is log c s = λ i. max (floor_at c (hours_is log s i * HOUR)) (floor_is log s i)
 
--- The shown journal has the same list of live streams.
 pub streams_are : (log : Journal) → live_streams (shown_journal log) ≡ live_streams log
 streams_are log = λ i. filter (λ s. live_is log s i) (numbers_from 1 (made_is log i))
 
--- In the shown journal, each name is that of the same live stream.
 pub named_is : (log : Journal) (name : List ℕ) → stream_named (shown_journal log) name ≡ stream_named log name
 named_is log name = λ i. find (λ s. same_name (name_is log s i) name) (streams_are log i)
 
 -- ---- Shards
 
--- In the shown journal, each stream has the same next sequence number.
 pub next_is : (log : Journal) (s : ℕ) → next_number (shown_journal log) s ≡ next_number log s
 next_is [] s = refl
 next_is (line ∷ log) s = ap (λ n. draws line.what s + n) (next_is log s)
 
--- A line and the line that its text shows (`shown_line`) change the shards of a stream in the same way.
-line_is : (line : Line) (what : Entry) (s start : ℕ) (before : List ShardState)
-    → shards_after (shown_line line) what s start before ≡ shards_after line what s start before
-line_is line (entry.Made a name count) s start before = refl
-line_is line (entry.Split a sh at number low high) s start before = refl
-line_is line (entry.Merged a sh other number child) s start before = refl
-line_is line _ s start before = refl
+line_is : (line : Line) (change : Entry) (s start : ℕ) (old : List ShardState)
+    → shards_after (shown_line line) change s start old ≡ shards_after line change s start old
+line_is line (entry.Made a name count) s start old = refl
+line_is line (entry.Split a sh hash number low high) s start old = refl
+line_is line (entry.Merged a sh other number child) s start old = refl
+line_is line _ s start old = refl
 
--- In the shown journal, each stream has the same shards.
 pub shards_are : (log : Journal) (s : ℕ) → shards (shown_journal log) s ≡ shards log s
 shards_are [] s = refl
 shards_are (line ∷ log) s =
     line_is line line.what s (next_number (shown_journal (line ∷ log)) s) (shards (shown_journal log) s)
     ∙ (λ i. shards_after line line.what s (next_is (line ∷ log) s i) (shards_are log s i))
 
--- In the shown journal, each hash key has the same home.
 pub home_is : (log : Journal) (s k : ℕ) → home (shown_journal log) s k ≡ home log s k
 home_is log s k = λ i. home_among (filter is_open (shards_are log s i)) k
 
@@ -113,7 +102,6 @@ open_list : (log : Journal) (ss : List ℕ) → open_in (shown_journal log) ss �
 open_list log [] = refl
 open_list log (s ∷ ss) = λ i. length (filter is_open (shards_are log s i)) + open_list log ss i
 
--- In the shown journal, as many shards are open as in the journal itself.
 pub open_is : (log : Journal) → open_count (shown_journal log) ≡ open_count log
 open_is log = ap (open_in (shown_journal log)) (streams_are log) ∙ open_list log (live_streams log)
 
@@ -122,7 +110,6 @@ state_is : (log : Journal) (c s : ℕ) (o : Option ShardState)
 state_is log c s None = refl
 state_is log c s (Some x) = λ i. not (not (live_is log s i) || is_closed_below (trim_is log c s i) x)
 
--- In the shown journal, the same shards are listed.
 pub listed_is : (log : Journal) (c s sh : ℕ) → is_listed (shown_journal log) c s sh ≡ is_listed log c s sh
 listed_is log c s sh =
     ap (λ (xs : List ShardState). is_listed_state (shown_journal log) c s (slice_get xs sh)) (shards_are log s)
@@ -134,22 +121,28 @@ last_bare : (rs : List Logged) (r : Logged) → map bare (rs ++ r ∷ []) ≡ ma
 last_bare [] r = refl
 last_bare (x ∷ rs) r = ap (λ xs. bare x ∷ xs) (last_bare rs r)
 
-record_one : (line : Line) (what : Entry) (s sh : ℕ) (rs rs' : List Logged) → map bare rs' ≡ map bare rs
-    → map bare (records_after (shown_line line) what s sh rs') ≡ map bare (records_after line what s sh rs)
-record_one line (entry.Put a shard n hash bytes key_bytes) s sh rs rs' e = by ((a == s) && (shard == sh))
+record_one : (line : Line) (change : Entry) (s sh : ℕ) (rs rs' : List Logged) → map bare rs' ≡ map bare rs
+    → map bare (records_after (shown_line line) change s sh rs') ≡ map bare (records_after line change s sh rs)
+record_one line (entry.Put a shard n hash bytes key_bytes) s sh rs rs' e = cases ((a == s) && (shard == sh))
   where
-    told : List ℕ → List ℕ → Logged
-    told key payload = record { seq = n; arrival = line.clock; bytes = bytes + key_bytes; key = key; payload = payload }
+    stated : List ℕ → List ℕ → Logged
+    stated key payload = record {
+      seq = n;
+      arrival = line.clock;
+      bytes = bytes + key_bytes;
+      key = key;
+      payload = payload;
+    }
 
     x : Logged
-    x = told (shown_line line).key (shown_line line).payload
+    x = stated (shown_line line).key (shown_line line).payload
 
     y : Logged
-    y = told line.key line.payload
+    y = stated line.key line.payload
 
-    by : (b : Bool) → map bare (if b then rs' ++ x ∷ [] else rs') ≡ map bare (if b then rs ++ y ∷ [] else rs)
-    by true = last_bare rs' x ∙ ap (λ xs. xs ++ bare y ∷ []) e ∙ sym (last_bare rs y)
-    by false = e
+    cases : (b : Bool) → map bare (if b then rs' ++ x ∷ [] else rs') ≡ map bare (if b then rs ++ y ∷ [] else rs)
+    cases true = last_bare rs' x ∙ ap (λ xs. xs ++ bare y ∷ []) e ∙ sym (last_bare rs y)
+    cases false = e
 record_one line _ s sh rs rs' e = e
 
 records_are : (log : Journal) (s sh : ℕ) → map bare (records (shown_journal log) s sh) ≡ map bare (records log s sh)
@@ -161,7 +154,7 @@ left_are : (log : Journal) (c s sh position : ℕ) → map bare (left_from (show
     ≡ map bare (left_from log c s sh position)
 left_are log c s sh position =
     (λ i. map bare (if live_is log s i then left_among (trim_is log c s i) position rs' else []))
-    ∙ by (is_live log s)
+    ∙ cases (is_live log s)
   where
     rs : List Logged
     rs = records log s sh
@@ -172,13 +165,12 @@ left_are log c s sh position =
     floor : ℕ
     floor = trim_floor log c s
 
-    by : (b : Bool) → map bare (if b then left_among floor position rs' else [])
+    cases : (b : Bool) → map bare (if b then left_among floor position rs' else [])
         ≡ map bare (if b then left_among floor position rs else [])
-    by true = left_bare floor position rs' ∙ ap (left_among floor position) (records_are log s sh)
+    cases true = left_bare floor position rs' ∙ ap (left_among floor position) (records_are log s sh)
         ∙ sym (left_bare floor position rs)
-    by false = refl
+    cases false = refl
 
--- In the shown journal, a read returns records with the same numbers.
 pub numbers_are : (log : Journal) (c s sh position limit : ℕ)
     → numbers_of (batch (shown_journal log) c s sh position limit) ≡ numbers_of (batch log c s sh position limit)
 numbers_are log c s sh position limit =
@@ -188,7 +180,6 @@ numbers_are log c s sh position limit =
     ∙ sym (ap numbers_of (beginning_bare limit BATCH_BYTES (left_from log c s sh position)))
     ∙ numbers_bare (batch log c s sh position limit)
 
--- In the shown journal, each shard ends at the same positions.
 pub ends_is : (log : Journal) (c s sh place : ℕ) → ends_at (shown_journal log) c s sh place ≡ ends_at log c s sh place
 ends_is log c s sh place = λ i. is_closed_at (slice_get (shards_are log s i) sh) && none_is i
   where
@@ -206,18 +197,15 @@ first_is log c s sh moment otherwise =
 
 -- ---- Throughput
 
--- In the shown journal, the limits of the same streams are on.
 pub enforced_is : (log : Journal) (s : ℕ) → is_enforced (shown_journal log) s ≡ is_enforced log s
 enforced_is [] s = refl
 enforced_is (line ∷ log) s = ap (enforced_after line.what s) (enforced_is log s)
 
--- A line and the line that its text shows (`shown_line`) change the puts of a shard in the same way.
-put_one : (line : Line) (what : Entry) (s sh : ℕ) (before : List SizedPut)
-    → puts_after (shown_line line) what s sh before ≡ puts_after line what s sh before
-put_one line (entry.Put a shard n hash bytes key_bytes) s sh before = refl
-put_one line _ s sh before = refl
+put_one : (line : Line) (change : Entry) (s sh : ℕ) (old : List SizedPut)
+    → puts_after (shown_line line) change s sh old ≡ puts_after line change s sh old
+put_one line (entry.Put a shard n hash bytes key_bytes) s sh old = refl
+put_one line _ s sh old = refl
 
--- In the shown journal, each shard has the same puts, with their sizes.
 pub puts_are : (log : Journal) (s sh : ℕ) → puts (shown_journal log) s sh ≡ puts log s sh
 puts_are [] s sh = refl
 puts_are (line ∷ log) s sh = put_one line line.what s sh (puts (shown_journal log) s sh)
@@ -225,7 +213,6 @@ puts_are (line ∷ log) s sh = put_one line line.what s sh (puts (shown_journal 
 
 -- ---- Rows and tenures
 
--- In the shown journal, as many tenures have begun as in the journal itself.
 pub taken_is : (log : Journal) → taken_count (shown_journal log) ≡ taken_count log
 taken_is [] = refl
 taken_is (line ∷ log) = ap (taken_count_after line.what) (taken_is log)
@@ -234,26 +221,25 @@ key_is : (log : Journal) (t : ℕ) → key_of (shown_journal log) t ≡ key_of l
 key_is [] t = refl
 key_is (line ∷ log) t = λ i. key_of_after line.what t (taken_is log i) (key_is log t i)
 
--- In the shown journal, a row that is made for the key `key` with the origin `from` gets the same floor.
-floor_from_is : (log : Journal) (c : ℕ) (key : ShardRef) (from : Origin)
-    → floor_from (shown_journal log) c key from ≡ floor_from log c key from
+floor_from_is : (log : Journal) (c : ℕ) (key : ShardRef) (start : Origin)
+    → floor_from (shown_journal log) c key start ≡ floor_from log c key start
 floor_from_is log c key origin.TrimHorizon = λ i. start_of (slice_get (shards_are log key.stream i) key.shard)
 floor_from_is log c key origin.Latest = next_is log key.stream
 floor_from_is log c key (origin.Time moment) =
     ap (first_at (left_from (shown_journal log) c key.stream key.shard 0) moment) (next_is log key.stream)
     ∙ first_is log c key.stream key.shard moment (next_number log key.stream)
 
-made_row_is : (log : Journal) (c : ℕ) (key : ShardRef) (from : Origin)
-    → made_row (shown_journal log) c key from ≡ made_row log c key from
-made_row_is log c key from =
-    λ i. new_row key (floor_from_is log c key from i) (start_from from (floor_from_is log c key from i))
+made_row_is : (log : Journal) (c : ℕ) (key : ShardRef) (start : Origin)
+    → made_row (shown_journal log) c key start ≡ made_row log c key start
+made_row_is log c key start =
+    λ i. new_row key (floor_from_is log c key start i) (start_from start (floor_from_is log c key start i))
     (parent_of (slice_get (shards_are log key.stream i) key.shard))
     (adjacent_of (slice_get (shards_are log key.stream i) key.shard))
 
-row_one : (log : Journal) (line : Line) (what : Entry) (key : ShardRef) (o o' : Option Row) → o' ≡ o
-    → row_after (shown_journal log) (shown_line line) what key o' ≡ row_after log line what key o
-row_one log line (entry.LeaseMade k from) key o o' e =
-    λ i. if same_key k key then Some (made_row_is log line.clock key from i) else e i
+row_one : (log : Journal) (line : Line) (change : Entry) (key : ShardRef) (o o' : Option Row) → o' ≡ o
+    → row_after (shown_journal log) (shown_line line) change key o' ≡ row_after log line change key o
+row_one log line (entry.LeaseMade k start) key o o' e =
+    λ i. if same_key k key then Some (made_row_is log line.clock key start i) else e i
 row_one log line (entry.LeaseCut k counter) key o o' e = λ i. if same_key k key then None else e i
 row_one log line (entry.Taken k t counter owner) key o o' e =
     λ i. if same_key k key then option_map (taken_row (taken_is log i + 1) owner) (e i) else e i
@@ -261,17 +247,16 @@ row_one log line (entry.Renewed t counter) key o o' e =
     λ i. if is_key (key_is log t i) key then option_map renewed_row (e i) else e i
 row_one log line (entry.Freed t counter) key o o' e =
     λ i. if is_key (key_is log t i) key then option_map freed_row (e i) else e i
-row_one log line (entry.Marked t counter to) key o o' e =
-    λ i. if is_key (key_is log t i) key then option_map (marked_row to) (e i) else e i
+row_one log line (entry.Marked t counter target) key o o' e =
+    λ i. if is_key (key_is log t i) key then option_map (marked_row target) (e i) else e i
 row_one log line _ key o o' e = e
 
--- In the shown journal, each key has the same row.
 pub row_is : (log : Journal) (key : ShardRef) → row (shown_journal log) key ≡ row log key
 row_is [] key = refl
 row_is (line ∷ log) key = row_one log line line.what key (row log key) (row (shown_journal log) key) (row_is log key)
 
-tenure_one : (log : Journal) (line : Line) (what : Entry) (t : ℕ) (o o' : Option TenureState) → o' ≡ o
-    → tenure_after (shown_journal log) (shown_line line) what t o' ≡ tenure_after log line what t o
+tenure_one : (log : Journal) (line : Line) (change : Entry) (t : ℕ) (o o' : Option TenureState) → o' ≡ o
+    → tenure_after (shown_journal log) (shown_line line) change t o' ≡ tenure_after log line change t o
 tenure_one log line (entry.Taken key u counter owner) t o o' e =
     λ i. if t == taken_is log i + 1 then Some (new_tenure line.by key (checkpoint_in (row_is log key i))) else e i
 tenure_one log line (entry.Opened u) t o o' e = λ i. if u == t then option_map with_opened (e i) else e i
@@ -280,7 +265,6 @@ tenure_one log line (entry.Read u limit ended numbers) t o o' e =
 tenure_one log line (entry.Given u) t o o' e = λ i. if u == t then option_map with_given (e i) else e i
 tenure_one log line _ t o o' e = e
 
--- In the shown journal, each tenure has the same state.
 pub tenure_is : (log : Journal) (t : ℕ) → tenure (shown_journal log) t ≡ tenure log t
 tenure_is [] t = refl
 tenure_is (line ∷ log) t =
@@ -299,7 +283,6 @@ follows_is log key =
     λ i. reaches_is log key.stream (parent_of (slice_get (shards_are log key.stream i) key.shard)) i
     || reaches_is log key.stream (adjacent_of (slice_get (shards_are log key.stream i) key.shard)) i
 
--- In the shown journal, a new row gets the same origin.
-pub origin_is : (log : Journal) (key : ShardRef) (from : Origin)
-    → counting_origin (shown_journal log) key from ≡ counting_origin log key from
-origin_is log key from = λ i. if follows_is log key i then origin.TrimHorizon else from
+pub origin_is : (log : Journal) (key : ShardRef) (start : Origin)
+    → counting_origin (shown_journal log) key start ≡ counting_origin log key start
+origin_is log key start = λ i. if follows_is log key i then origin.TrimHorizon else start

@@ -1,4 +1,4 @@
--- The state of a tenure in a journal is the one that the lines about the tenure determine (`IsToldTenure`).
+-- A tenure's state is the one that the lines about the tenure determine.
 use Rattle.std.proofs.Common.{◌≡◌, ℕ, ◌+◌, Bool, true, false, List, [], ◌∷◌, ◌++◌, length, Option, Some, None, refl, ap}
 use Rattle.std.proofs.Common.{◌∙◌, arith}
 use Rattle.std.specs.Prelude.{◌==◌, ◌||◌, cond, if◌then◌else◌}
@@ -13,7 +13,7 @@ use Rattle.kds_defs.specs.Leases.{with_given, with_opened, with_read}
 use Rattle.kcl_laws.specs.TenureLines.{Told, all_told, begins, givings, newer_than, reads_told, since_taking, taken_key}
 use Rattle.kcl_laws.specs.TenureLines.{taking, was_opened, IsToldTenure}
 
--- The state of the tenure `t` that the line `begun` began and that the lines `ls` since then changed.
+-- The state of tenure `t` that `begun` began and the lines `ls` since then changed.
 abbrev told_by : ℕ → List Told → Told → TenureState
 told_by t ls begun =
     record {
@@ -25,23 +25,23 @@ told_by t ls begun =
       given = length (givings t ls);
     }
 
--- The state of the tenure `t` that the lines `ls` determine, or None if none of them begins it.
+-- The state of tenure `t` that the lines determine, or `None` if none of them begins it.
 abbrev told : ℕ → List Told → Option TenureState
 told t ls = option_map (told_by t (newer_than t ls)) (find (begins t) ls)
 
--- The line with the entry `e` of the actor `by`, after the lines of `log`.
+-- The line with this entry and actor, after the lines of `log`.
 abbrev here : ℕ → Journal → Entry → Told
-here by log e = record { by = by; what = e; before = log }
+here actor log e = record { by = actor; what = e; before = log }
 
 -- ---- One more line, which is the tenure's or isn't
 
-began : (t by : ℕ) (log : Journal) (k : ShardRef) (n c owner : ℕ) (ls : List Told) (b : Bool)
-    (before : Option TenureState) → before ≡ told t ls
-    → (if b then Some (new_tenure by k (checkpoint_in (row log k))) else before)
-    ≡ option_map (told_by t (if b then [] else here by log (entry.Taken k n c owner) ∷ newer_than t ls))
-    (cond b (Some (here by log (entry.Taken k n c owner))) (find (begins t) ls))
-began t by log k n c owner ls true before is = refl
-began t by log k n c owner ls false before is = is
+began : (t actor : ℕ) (log : Journal) (k : ShardRef) (n c owner : ℕ) (ls : List Told) (b : Bool)
+    (old : Option TenureState) → old ≡ told t ls
+    → (if b then Some (new_tenure actor k (checkpoint_in (row log k))) else old)
+    ≡ option_map (told_by t (if b then [] else here actor log (entry.Taken k n c owner) ∷ newer_than t ls))
+    (cond b (Some (here actor log (entry.Taken k n c owner))) (find (begins t) ls))
+began t actor log k n c owner ls true old is = refl
+began t actor log k n c owner ls false old is = is
 
 opened : (t : ℕ) (ls : List Told) (b : Bool) (o : Option Told)
     → (if b then option_map with_opened (option_map (told_by t ls) o) else option_map (told_by t ls) o)
@@ -72,21 +72,21 @@ gave t ls l true (Some x) =
     ap (λ n. Some (record (told_by t ls x) { given = n })) one
 gave t ls l false (Some x) = refl
 
-told_line : (t by : ℕ) (log : Journal) (line : Line) (e : Entry) (ls : List Told) → line.by ≡ by
-    → tenure log t ≡ told t ls → tenure_after log line e t (tenure log t) ≡ told t (here by log e ∷ ls)
-told_line t by log line (entry.Taken k n c owner) ls same is =
+told_line : (t actor : ℕ) (log : Journal) (line : Line) (e : Entry) (ls : List Told) → line.by ≡ actor
+    → tenure log t ≡ told t ls → tenure_after log line e t (tenure log t) ≡ told t (here actor log e ∷ ls)
+told_line t actor log line (entry.Taken k n c owner) ls same is =
     ap (λ w. if t == taken_count log + 1 then Some (new_tenure w k (checkpoint_in (row log k))) else tenure log t) same
-    ∙ began t by log k n c owner ls (t == taken_count log + 1) (tenure log t) is
-told_line t by log line (entry.Opened u) ls same is =
+    ∙ began t actor log k n c owner ls (t == taken_count log + 1) (tenure log t) is
+told_line t actor log line (entry.Opened u) ls same is =
     ap (λ o. if u == t then option_map with_opened o else o) is
     ∙ opened t (newer_than t ls) (u == t) (find (begins t) ls)
-told_line t by log line (entry.Read u limit ended numbers) ls same is =
+told_line t actor log line (entry.Read u limit ended numbers) ls same is =
     ap (λ o. if u == t then option_map (with_read numbers ended) o else o) is
     ∙ read t (newer_than t ls) numbers ended (u == t) (find (begins t) ls)
-told_line t by log line (entry.Given u) ls same is =
+told_line t actor log line (entry.Given u) ls same is =
     ap (λ o. if u == t then option_map with_given o else o) is
-    ∙ gave t (newer_than t ls) (here by log (entry.Given u)) (u == t) (find (begins t) ls)
-told_line t by log line _ ls same is = is
+    ∙ gave t (newer_than t ls) (here actor log (entry.Given u)) (u == t) (find (begins t) ls)
+told_line t actor log line _ ls same is = is
 
 -- ---- All lines
 
@@ -94,12 +94,10 @@ all : (log : Journal) (t : ℕ) → tenure log t ≡ told t (all_told log)
 all [] t = refl
 all (line ∷ log) t = told_line t line.by log line line.what (all_told log) refl (all log t)
 
--- If no line begins the tenure `t`, there is no such tenure.
 pub never : (log : Journal) (t : ℕ) → taking log t ≡ None → tenure log t ≡ None
 never log t is = all log t ∙ ap (λ o. option_map (told_by t (since_taking log t)) o) is
 
--- If the line `l` begins the tenure `t`, the tenure's state is the one that `l` and the lines since then determine
--- (`IsToldTenure`).
+-- The take and the lines since then determine the tenure.
 pub begun : (log : Journal) (t : ℕ) (l : Told) → taking log t ≡ Some l → IsToldTenure log t l
 begun log t l is =
     record {

@@ -1,4 +1,4 @@
--- After one more line about a lease, the changed rows and tenures are those of the journal with this line.
+-- After a line about a lease, the changed rows and tenures are the journal's.
 use Rattle.std.proofs.Common.{◌≡◌, ◌≢◌, ℕ, ◌+◌, ◌-◌, ◌<◌, ◌≤◌, Bool, true, false, List, [], ◌∷◌, ◌++◌, length, map}
 use Rattle.std.proofs.Common.{slice_set, Option, Some, None, refl, sym}
 use Rattle.std.proofs.Common.{ap, subst, ◌∙◌, arith}
@@ -22,28 +22,24 @@ use Rattle.kcl_leases.proofs.RowChanges.{row_with, row_without}
 use Rattle.kcl_leases.proofs.TenureChanges.{tenure_push, tenure_set}
 use Rattle.kcl_leases.specs.Standing.{AreBounded, AreDistinct, Facing, IsGiven, KeepsShards, Stands, kept, leases}
 
--- If a journal leads to the shards `s`, so does the journal with one more line about a lease, at the clock of `s`.
+-- A line about a lease at the clock of `s` changes no shard.
 abbrev pub LeaseLines : Facing → Type 0
 LeaseLines s = KeepsShards s.clock s.shows
 
--- The book of tenures `ts` has the tenures of the journal `log`, in the order of their numbers. There are at most
--- `last_number` tenures, and no tenure has given more reads than it has made.
+-- The book has the journal's tenures by number, at most `last_number`, each given at most what it read.
 pub record HasTenures (log : Journal) (ts : List TenureValue) : Type 0 where
   pub count_is : taken_count log ≡ length ts
   pub tenure_is : (t : ℕ) → option_map kept (tenure log t) ≡ tenure_at ts t
   pub few : length ts ≤ last_number
   pub given : (t : ℕ) → IfSome (tenure log t) IsGiven
 
--- The lease table `rows` has the rows of the journal `log`, in the order of their keys. No two rows have the same key,
--- and no row has its checkpoint at the greatest possible sequence number.
+-- The table has the journal's rows in order, with distinct keys, and no checkpoint at the greatest number.
 pub record HasRows (log : Journal) (rows : List Row) : Type 0 where
   pub keys_are : row_keys log ≡ map (λ (r : Row). r.key) rows
   pub row_is : (key : ShardRef) → row log key ≡ row_of rows key
   pub distinct : AreDistinct rows
   pub bounded : AreBounded rows
 
--- Let the journal lead to the shards `s`, and have the rows `rows` and the tenures `ts`. Then the leases with these
--- shards, rows and tenures stand for the journal (`Stands`).
 pub stands_of : (s : Facing) (rows : List Row) (ts : List TenureValue) (log : Journal) → s.shows log → HasRows log rows
     → HasTenures log ts → Stands (leases s rows ts) log
 stands_of s rows ts log shows rs tenures = record {
@@ -58,13 +54,11 @@ stands_of s rows ts log shows rs tenures = record {
   given = tenures.given;
 }
 
--- If leases stand for a journal, their rows are those of the journal (`HasRows`).
 pub rows_of : (s : Facing) (rows : List Row) (ts : List TenureValue) (log : Journal) → Stands (leases s rows ts) log
     → HasRows log rows
 rows_of s rows ts log st =
     record { keys_are = st.keys_are; row_is = st.row_is; distinct = st.distinct; bounded = st.bounded }
 
--- If leases stand for a journal, their tenures are those of the journal (`HasTenures`).
 pub tenures_of : (s : Facing) (rows : List Row) (ts : List TenureValue) (log : Journal) → Stands (leases s rows ts) log
     → HasTenures log ts
 tenures_of s rows ts log st =
@@ -72,7 +66,6 @@ tenures_of s rows ts log st =
 
 -- ---- Lines that leave the rows, or the tenures, as they were
 
--- If the rows are those of the journal (`HasRows`), they still are after a line that changes no row.
 pub same_rows : (log : Journal) (line : Line) (rows : List Row)
     → ((ks : List ShardRef) → row_keys_after line.what ks ≡ ks)
     → ((k : ShardRef) (o : Option Row) → row_after log line line.what k o ≡ o) → HasRows log rows
@@ -84,7 +77,6 @@ same_rows log line rows keys same rs = record {
   bounded = rs.bounded;
 }
 
--- If the tenures are those of the journal (`HasTenures`), they still are after a line that changes no tenure.
 pub same_tenures : (log : Journal) (line : Line) (ts : List TenureValue) → ((n : ℕ) → taken_count_after line.what n ≡ n)
     → ((t : ℕ) (o : Option TenureState) → tenure_after log line line.what t o ≡ o) → HasTenures log ts
     → HasTenures (line ∷ log) ts
@@ -101,17 +93,15 @@ bound_if : (f : Row → Row) (key k : ShardRef) (rows : List Row) (b : Bool) →
     → ((r : Row) → row_of rows key ≡ Some r → (f r).checkpoint ≢ At last_number)
     → checkpoint_in (if b then option_map f (row_of rows k) else row_of rows k) ≢ At last_number
 bound_if f key k rows false same bounded new = bounded k
-bound_if f key k rows true same bounded new = by (row_of rows k) (ap (row_of rows) (same_ref key k same))
+bound_if f key k rows true same bounded new = cases (row_of rows k) (ap (row_of rows) (same_ref key k same))
   where
     horizon : TrimHorizon ≢ At last_number
     horizon = λ e. cc
 
-    by : (o : Option Row) → row_of rows key ≡ o → checkpoint_in (option_map f o) ≢ At last_number
-    by None e = horizon
-    by (Some r) e = new r e
+    cases : (o : Option Row) → row_of rows key ≡ o → checkpoint_in (option_map f o) ≢ At last_number
+    cases None e = horizon
+    cases (Some r) e = new r e
 
--- Let the rows be those of the journal (`HasRows`), and let a line change the row of the key `key` by `f`. Then the
--- rows with this change are those of the journal with the line.
 pub changed_rows : (log : Journal) (line : Line) (rows : List Row) (f : Row → Row) (key : ShardRef)
     → ((r : Row) → (f r).key ≡ r.key) → ((ks : List ShardRef) → row_keys_after line.what ks ≡ ks)
     → ((k : ShardRef) (o : Option Row)
@@ -127,8 +117,6 @@ changed_rows log line rows f key keeps keys after new rs = record {
       (bound_if f key k rows (same_key key k) refl rs.bounded new);
 }
 
--- Let the rows be those of the journal (`HasRows`), and let a line make the row `new`. Then the rows with `new`
--- inserted are those of the journal with the line.
 pub made_rows : (log : Journal) (line : Line) (rows : List Row) (new : Row) → row_of rows new.key ≡ None
     → row_keys_after line.what (row_keys log) ≡ map (λ (r : Row). r.key) (with_row new rows)
     → ((k : ShardRef) (o : Option Row)
@@ -141,15 +129,13 @@ made_rows log line rows new none keys after bound rs = record {
       ∙ sym (row_with new k rows none);
   distinct = distinct_with new rows none rs.distinct;
   bounded = λ k. subst (λ o. checkpoint_in o ≢ At last_number) (sym (row_with new k rows none))
-      (by k (same_key new.key k));
+      (cases k (same_key new.key k));
 }
   where
-    by : (k : ShardRef) (b : Bool) → checkpoint_in (if b then Some new else row_of rows k) ≢ At last_number
-    by k true = bound
-    by k false = rs.bounded k
+    cases : (k : ShardRef) (b : Bool) → checkpoint_in (if b then Some new else row_of rows k) ≢ At last_number
+    cases k true = bound
+    cases k false = rs.bounded k
 
--- Let the rows be those of the journal (`HasRows`), and let a line remove the row of the key `key`. Then the rows
--- without this row are those of the journal with the line.
 pub removed_rows : (log : Journal) (line : Line) (rows : List Row) (key : ShardRef)
     → row_keys_after line.what (row_keys log) ≡ map (λ (r : Row). r.key) (without_row key rows)
     → ((k : ShardRef) (o : Option Row) → row_after log line line.what k o ≡ (if same_key key k then None else o))
@@ -160,15 +146,15 @@ removed_rows log line rows key keys after rs = record {
       ∙ sym (row_without key k rows rs.distinct);
   distinct = distinct_without key rows rs.distinct;
   bounded = λ k. subst (λ o. checkpoint_in o ≢ At last_number) (sym (row_without key k rows rs.distinct))
-      (by k (same_key key k));
+      (cases k (same_key key k));
 }
   where
     horizon : TrimHorizon ≢ At last_number
     horizon = λ e. cc
 
-    by : (k : ShardRef) (b : Bool) → checkpoint_in (if b then None else row_of rows k) ≢ At last_number
-    by k true = horizon
-    by k false = rs.bounded k
+    cases : (k : ShardRef) (b : Bool) → checkpoint_in (if b then None else row_of rows k) ≢ At last_number
+    cases k true = horizon
+    cases k false = rs.bounded k
 
 -- ---- A tenure goes on, or begins
 
@@ -183,17 +169,16 @@ given_if : (b : Bool) (g : TenureState → TenureState) (T : TenureState) (o : O
 given_if true g T o here new old = subst (λ p. IfSome (option_map g p) IsGiven) (sym (here refl)) new
 given_if false g T o here new old = old
 
--- Let the tenures be those of the journal (`HasTenures`), and let a line change the tenure `t` by `g`. Then the tenures
--- with this change are those of the journal with the line.
-pub tenure_goes_on : (log : Journal) (line : Line) (ts : List TenureValue) (t : ℕ) (g : TenureState
-    → TenureState) (T : TenureState) (y : TenureValue)
+pub tenure_goes_on : (log : Journal) (line : Line) (ts : List TenureValue) (t : ℕ) (g : TenureState → TenureState)
+    (T : TenureState) (y : TenureValue)
     → ((n : ℕ) → taken_count_after line.what n ≡ n)
     → ((u : ℕ) (o : Option TenureState) → tenure_after log line line.what u o ≡ (if t == u then option_map g o else o))
     → tenure log t ≡ Some T → y ≡ kept (g T) → IsGiven (g T)
     → HasTenures log ts → HasTenures (line ∷ log) (slice_set ts (t - 1) y)
-tenure_goes_on log line ts t g T y count after at is new tenures =
-    let here : (u : ℕ) → (t == u) ≡ true → tenure log u ≡ Some T = λ u e. ap (tenure log) (sym (equal_so t u e)) ∙ at in
-    let there : tenure_at ts t ≡ Some (kept T) = sym (tenures.tenure_is t) ∙ ap (option_map kept) at in
+tenure_goes_on log line ts t g T y count after is_at is new tenures =
+    let here : (u : ℕ) → (t == u) ≡ true → tenure log u ≡ Some T =
+    λ u e. ap (tenure log) (sym (equal_so t u e)) ∙ is_at in
+    let there : tenure_at ts t ≡ Some (kept T) = sym (tenures.tenure_is t) ∙ ap (option_map kept) is_at in
     record {
       count_is = count (taken_count log) ∙ tenures.count_is ∙ sym (length-set ts (t - 1) y);
       few = subst (λ n. n ≤ last_number) (sym (length-set ts (t - 1) y)) tenures.few;
@@ -215,8 +200,6 @@ begun_given : (b : Bool) (T : TenureState) (o : Option TenureState) → IsGiven 
 begun_given true T o new old = new
 begun_given false T o new old = old
 
--- Let the tenures be those of the journal (`HasTenures`), and let a line begin a tenure with the state `T`. Then the
--- tenures with this one at their end are those of the journal with the line.
 pub tenure_begins : (log : Journal) (line : Line) (ts : List TenureValue) (T : TenureState) (y : TenureValue)
     → ((n : ℕ) → taken_count_after line.what n ≡ n + 1)
     → ((u : ℕ) (o : Option TenureState)

@@ -1,4 +1,4 @@
--- A line about a stream is about no lease, and changes no row and no tenure.
+-- A line about a stream is about no lease and changes no row and no tenure.
 use Rattle.std.proofs.Common.{◌≢◌, List, ◌∷◌, None}
 use Rattle.kds_defs.proofs.Elsewhere.{keys_same, row_same, taken_same, tenure_same}
 use Rattle.kds_defs.specs.declared.reply.Row.{Row}
@@ -8,25 +8,22 @@ use Rattle.kcl_book.specs.Tenures.{TenureValue}
 use Rattle.kcl_leases.proofs.LeaseSteps.{HasRows, HasTenures, rows_of, same_rows, same_tenures, stands_of, tenures_of}
 use Rattle.kcl_leases.specs.Standing.{Facing, Stands, leases}
 
--- If the rows are those of the journal (`HasRows`), they still are after a line about a stream.
 pub rows_beside : (log : Journal) (line : Line) (rows : List Row) → stream_of line.what ≢ None → HasRows log rows
     → HasRows (line ∷ log) rows
-rows_beside log line rows of has =
-    same_rows log line rows (λ keys. keys_same line.what keys of)
-    (λ key before. row_same log line line.what key before of) has
+rows_beside log line rows is_of has =
+    same_rows log line rows (λ keys. keys_same line.what keys is_of)
+    (λ key is_before. row_same log line line.what key is_before is_of) has
 
--- If the tenures are those of the journal (`HasTenures`), they still are after a line about a stream.
 pub tenures_beside : (log : Journal) (line : Line) (ts : List TenureValue) → stream_of line.what ≢ None
     → HasTenures log ts → HasTenures (line ∷ log) ts
-tenures_beside log line ts of has =
-    same_tenures log line ts (λ n. taken_same line.what n of) (λ t before. tenure_same log line line.what t before of)
+tenures_beside log line ts is_of has =
+    same_tenures log line ts (λ n. taken_same line.what n is_of)
+    (λ t is_before. tenure_same log line line.what t is_before is_of)
     has
 
--- Let leases stand for a journal. If the journal with one more line about a stream leads to the shards `new`, the same
--- rows and tenures with the shards `new` stand for this longer journal.
 pub stands_beside : (old new : Facing) (rows : List Row) (ts : List TenureValue) (log : Journal) (line : Line)
     → stream_of line.what ≢ None
     → new.shows (line ∷ log) → Stands (leases old rows ts) log → Stands (leases new rows ts) (line ∷ log)
-stands_beside old new rows ts log line of shows st =
-    stands_of new rows ts (line ∷ log) shows (rows_beside log line rows of (rows_of old rows ts log st))
-    (tenures_beside log line ts of (tenures_of old rows ts log st))
+stands_beside old new rows ts log line is_of shows st =
+    stands_of new rows ts (line ∷ log) shows (rows_beside log line rows is_of (rows_of old rows ts log st))
+    (tenures_beside log line ts is_of (tenures_of old rows ts log st))

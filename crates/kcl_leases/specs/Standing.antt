@@ -1,5 +1,4 @@
--- The shards, rows and tenures as the commands on leases see them, and the journals for which they stand. A journal
--- leads to shards, rows or tenures if these result from its lines.
+-- Shards, rows and tenures as lease commands see them, and the journals for which they stand.
 use Rattle.std.specs.Prelude.{ℕ, ◌≡◌, ◌≢◌, ◌≤◌, if◌then◌else◌, List, [], ◌∷◌, drop, length, map, Option, None, Result}
 use Rattle.std.specs.Prelude.{IfSome}
 use Rattle.std.specs.Option.{option_map}
@@ -22,54 +21,48 @@ use Rattle.kcl_book.specs.declared.tenure.PendingRead.{PendingRead}
 use Rattle.kcl_book.specs.Tenures.{TenureValue, tenure_at}
 use Rattle.kcl_table.specs.Rows.{row_of}
 
--- The shard of the key `key`, if there is one and its stream is live.
-abbrev pub live_shard : Journal → ShardRef → Option ShardState
+-- The shard of the key, if its stream is live.
+abbrev pub live_shard : (log : Journal) (key : ShardRef) → Option ShardState
 live_shard log key = if is_live log key.stream then shard_at log key.stream key.shard else None
 
--- The shards as the commands on leases see them: the clock at which they are seen (`clock`), and the journals that lead
--- to these shards (`shows`).
+-- The shards as lease commands see them: a clock, and the journals that lead to them.
 pub record Facing : Type 1 where
   pub clock : ℕ
   pub shows : Journal → Type 0
 
--- The shards that are seen at the clock `clock`, and to which the journals in `shows` lead.
-abbrev pub facing : ℕ → (Journal → Type 0) → Facing
+-- The shards at this clock, to which the journals in `shows` lead.
+abbrev pub facing : (clock : ℕ) (shows : Journal → Type 0) → Facing
 facing clock shows = record { clock = clock; shows = shows }
 
--- If a journal leads to the shards (`shows`), so does the journal with one more line that is about no stream and has
--- the clock `clock`. Such a line is about a lease, and changes no shard.
-abbrev pub KeepsShards : ℕ → (Journal → Type 0) → Type 0
+-- One more line at the clock about no stream, and so about a lease, changes no shard.
+abbrev pub KeepsShards : (clock : ℕ) (shows : Journal → Type 0) → Type 0
 KeepsShards clock shows = (log : Journal) (line : Line) → shows log → line.clock ≡ clock → stream_of line.what ≡ None
     → shows (line ∷ log)
 
--- The state of the leases as contracts see it: the shards, the rows of the lease table, and the tenures in the order of
--- their numbers.
+-- The leases as contracts see them, with the tenures in the order of their numbers.
 pub record LeasesValue : Type 1 where
   pub shards : Facing
   pub rows : List Row
   pub tenures : List TenureValue
 
-abbrev pub leases : Facing → List Row → List TenureValue → LeasesValue
+abbrev pub leases : (s : Facing) (rows : List Row) (ts : List TenureValue) → LeasesValue
 leases s rows ts = record { shards = s; rows = rows; tenures = ts }
 
--- The state of the leases with the rows `rows` and the tenures `ts`. The shards are seen at the clock `clock`, and the
--- journals in `shows` lead to them.
-abbrev pub over : ℕ → (Journal → Type 0) → List Row → List TenureValue → LeasesValue
+-- The leases with these rows and tenures, over shards at this clock.
+abbrev pub over : (clock : ℕ) (shows : Journal → Type 0) (rows : List Row) (ts : List TenureValue) → LeasesValue
 over clock shows rows ts = leases (facing clock shows) rows ts
 
 -- ---- Tenures
 
--- The reads in the form in which the book of tenures keeps them: for each read, the position after it, and whether it
--- ended the shard. The first read begins at `position`, and each later read begins where the one before it ended.
-abbrev pub pending_from : ℕ → List ReadDone → List PendingRead
+-- The reads as the book keeps them: each with the position after it, from `position` on.
+abbrev pub pending_from : (position : ℕ) (rs : List ReadDone) → List PendingRead
 pending_from position [] = []
 pending_from position (r ∷ rs) =
     record { reach = position_after position r.numbers; end = r.ended }
     ∷ pending_from (position_after position r.numbers) rs
 
--- The tenure with the state `T`, in the form in which the book of tenures keeps it. Of its reads, the book keeps those
--- that aren't given yet.
-abbrev pub kept : TenureState → TenureValue
+-- The tenure as the book keeps it, with only the reads not given.
+abbrev pub kept : (tenure_state : TenureState) → TenureValue
 kept T =
     record {
       by = T.by;
@@ -82,27 +75,24 @@ kept T =
       at_end = last_ended (given_reads T);
     }
 
--- No more reads of the tenure `T` are given than it has made.
-abbrev pub IsGiven : TenureState → Type 0
+-- No more reads are given than were made.
+abbrev pub IsGiven : (tenure_state : TenureState) → Type 0
 IsGiven T = T.given ≤ length T.reads
 
 -- ---- Rows
 
--- No two of the rows have the same key.
-abbrev pub AreDistinct : List Row → Type 0
+-- No two rows have the same key.
+abbrev pub AreDistinct : (rs : List Row) → Type 0
 AreDistinct [] = Unit {0}
 AreDistinct (r ∷ rs) = (row_of rs r.key ≡ None) × AreDistinct rs
 
--- No row among `rows` has its checkpoint at the greatest possible sequence number, so that the number after a
--- checkpoint is always a possible one.
-abbrev pub AreBounded : List Row → Type 0
+-- No checkpoint is the greatest number, so the number after a checkpoint always exists.
+abbrev pub AreBounded : (rows : List Row) → Type 0
 AreBounded rows = (key : ShardRef) → checkpoint_in (row_of rows key) ≢ At last_number
 
 -- ---- Rows and tenures
 
--- The leases `w` stand for the journal `log`: the journal leads to the shards, the rows and the tenures of `w`. Also,
--- the rows have different keys, no checkpoint is at the greatest possible sequence number, there are at most
--- `last_number` tenures, and no tenure has given more reads than it has made.
+-- The leases have the journal's shards, rows and tenures; keys differ, and numbers are within bounds.
 pub record Stands (w : LeasesValue) (log : Journal) : Type 0 where
   pub shows : w.shards.shows log
   pub keys_are : row_keys log ≡ map (λ (r : Row). r.key) w.rows
@@ -114,16 +104,14 @@ pub record Stands (w : LeasesValue) (log : Journal) : Type 0 where
   pub tenure_is : (t : ℕ) → option_map kept (tenure log t) ≡ tenure_at w.tenures t
   pub given : (t : ℕ) → IfSome (tenure log t) IsGiven
 
--- If the leases `old` stand for a journal, `gives` is the answer to the command `what` of the actor `by` at the clock
--- of the shards. The leases `new` stand for this journal with the lines that the command adds.
-abbrev pub Leads : LeasesValue → LeasesValue → ℕ → Command → Result Reply Refusal → Type 0
-Leads old new by what gives = (log : Journal) → Stands old log
-    → (gives ≡ answer_of (decide log old.shards.clock by what))
-    × Stands new (with_lines (lines_of (decide log old.shards.clock by what)) log)
+-- For each journal of the old leases, the answer is the decision's, and the new ones have its lines too.
+abbrev pub Leads : (old new : LeasesValue) (actor : ℕ) (command : Command) (gives : Result Reply Refusal) → Type 0
+Leads old new actor command gives = (log : Journal) → Stands old log
+    → (gives ≡ answer_of (decide log old.shards.clock actor command))
+    × Stands new (with_lines (lines_of (decide log old.shards.clock actor command)) log)
 
--- The command `what` of the actor `by` leads from the rows `rows` and the tenures `ts` to `rows'` and `ts'`, and gets
--- the answer `gives` (`Leads`). The shards are seen at the clock `clock`, and the journals in `shows` lead to them.
-abbrev pub LeadsOver : ℕ → (Journal → Type 0) → List Row → List TenureValue → List Row → List TenureValue → ℕ → Command
-    → Result Reply Refusal → Type 0
-LeadsOver clock shows rows ts rows' ts' by what gives =
-    Leads (over clock shows rows ts) (over clock shows rows' ts') by what gives
+-- The command leads from these rows and tenures to the primed ones, with the shards unchanged.
+abbrev pub LeadsOver : (clock : ℕ) (shows : Journal → Type 0) (rows : List Row) (ts : List TenureValue)
+    (rows' : List Row) (ts' : List TenureValue) (actor : ℕ) (command : Command) (gives : Result Reply Refusal) → Type 0
+LeadsOver clock shows rows ts rows' ts' actor command gives =
+    Leads (over clock shows rows ts) (over clock shows rows' ts') actor command gives

@@ -26,8 +26,8 @@ pub fn make<L: Shards>(
     key: &ShardRef,
     from: Origin,
 ) -> Result<Answer, Memory>
-    ensures leads { (by : ℕ) (ts : List TenureValue)
-        → IfOk result (LeadsOver (L.clock shards.now) (L.shows shards.now) table.old ts table.new ts by
+    ensures leads { (actor : ℕ) (ts : List TenureValue)
+        → IfOk result (LeadsOver (L.clock shards.now) (L.shows shards.now) table.old ts table.new ts actor
         (command.MakeLease key.now from)) }
     ensures kept { OnErr result (table.new ≡ table.old) }
 {
@@ -163,8 +163,8 @@ pub fn free<L: Shards>(
 
 /// Removes the row of the shard `key`. The shard must not be listed, and the row's counter must be `counter`.
 pub fn cut<L: Shards>(shards: &L, table: &mut Table, key: &ShardRef, counter: u64) -> Answer
-    ensures { (by : ℕ) (ts : List TenureValue)
-        → LeadsOver (L.clock shards.now) (L.shows shards.now) table.old ts table.new ts by
+    ensures { (actor : ℕ) (ts : List TenureValue)
+        → LeadsOver (L.clock shards.now) (L.shows shards.now) table.old ts table.new ts actor
         (command.CutLease key.now counter) result }
 {
     shards.lease_lines();

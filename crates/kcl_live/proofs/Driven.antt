@@ -1,5 +1,4 @@
--- The answered commands of a worker are the turns of its pass (`IsDriven`). This stays true from step to step, through
--- calls, commands and answers.
+-- A worker's answered commands stay the turns of its pass, through calls, commands and answers.
 use Rattle.std.proofs.Common.{◌≡◌, ℕ, ◌+◌, List, [], ◌∷◌, length, Option, Some, Result, refl, sym, ap, ap₂, subst, ◌∙◌}
 use Rattle.std.proofs.Common.{inl, inr}
 use Rattle.std.specs.Prelude.{◌↔◌, ◌^◌, IsSome}
@@ -28,57 +27,53 @@ use Rattle.kcl_live.proofs.Histories.{before_own, none_told, told_more}
 
 -- ---- Events that aren't turns
 
--- Between the records `past` and `later`, no command was answered: the two records have the same turns and the same
--- deals. If each answer in `past` came right after its command, each answer in `later` did too.
-record IsQuiet (by : ℕ) (made : WorkerMade) (past later : WorkerPast) : Type 0 where
-  turns : turns_in by made later ≡ turns_in by made past
+-- No command was answered between the two traces.
+record IsQuiet (actor : ℕ) (made : WorkerMade) (past later : WorkerPast) : Type 0 where
+  turns : turns_in actor made later ≡ turns_in actor made past
   deals : deals_after made later ≡ deals_after made past
   once : IsAtOnce past → IsAtOnce later
 
--- Calls of processors answer no command (`IsQuiet`).
-quiet_calls : (by : ℕ) (made : WorkerMade) (asked : List Ask) (past : WorkerPast)
-    → IsQuiet by made past (with_calls asked past)
-quiet_calls by made [] past = record { turns = refl; deals = refl; once = λ o. o }
-quiet_calls by made (a ∷ asked) past =
-    let q = quiet_calls by made asked past in
+quiet_calls : (actor : ℕ) (made : WorkerMade) (asked : List Ask) (past : WorkerPast)
+    → IsQuiet actor made past (with_calls asked past)
+quiet_calls actor made [] past = record { turns = refl; deals = refl; once = λ o. o }
+quiet_calls actor made (a ∷ asked) past =
+    let q = quiet_calls actor made asked past in
     record { turns = q.turns; deals = q.deals; once = q.once }
 
-module _ {P F : Type 0} (stands : P → List Call → Type 0) (by : ℕ) (seen own : List Turn) where
-  -- `IsDriven` still holds for a later record in which no more commands were answered (`IsQuiet`), if the worker `v`
-  -- stands for this later record.
-  driven_quiet : (w v : WorkerStanding P F) (past later : WorkerPast) → v.made ≡ w.made → IsQuiet by w.made past later
-      → StandsFor stands v later → IsDriven stands by seen own w past → IsDriven stands by seen own v later
+module _ {P F : Type 0} (stands : P → List Call → Type 0) (actor : ℕ) (seen own : List Turn) where
+  driven_quiet : (w v : WorkerStanding P F) (past later : WorkerPast) → v.made ≡ w.made
+      → IsQuiet actor w.made past later
+      → StandsFor stands v later → IsDriven stands actor seen own w past → IsDriven stands actor seen own v later
   driven_quiet w v past later made q stood d = record {
     stood = stood;
-    own_are = d.own_are ∙ sym q.turns ∙ ap (λ m. turns_in by m later) (sym made);
+    own_are = d.own_are ∙ sym q.turns ∙ ap (λ m. turns_in actor m later) (sym made);
     at_once = q.once d.at_once;
     told = λ h c alone. d.told h c alone ∙ sym q.deals ∙ ap (λ m. deals_after m later) (sym made);
   }
 
-  -- `IsDriven` still holds after calls of the worker's processors, since a call is no turn.
+  -- A call is no turn.
   pub driven_called : (w v : WorkerStanding P F) (past : WorkerPast) (asked : List Ask) → v.made ≡ w.made
-      → StandsFor stands v (with_calls asked past) → IsDriven stands by seen own w past
-      → IsDriven stands by seen own v (with_calls asked past)
+      → StandsFor stands v (with_calls asked past) → IsDriven stands actor seen own w past
+      → IsDriven stands actor seen own v (with_calls asked past)
   driven_called w v past asked made stood d =
-      driven_quiet w v past (with_calls asked past) made (quiet_calls by w.made asked past) stood d
+      driven_quiet w v past (with_calls asked past) made (quiet_calls actor w.made asked past) stood d
 
-  -- `IsDriven` still holds after the worker was told to stop, since a stop is no turn.
+  -- A stop is no turn.
   pub driven_stopped : (w v : WorkerStanding P F) (past : WorkerPast) → v.made ≡ w.made
-      → StandsFor stands v (Stopped ∷ past) → IsDriven stands by seen own w past
-      → IsDriven stands by seen own v (Stopped ∷ past)
+      → StandsFor stands v (Stopped ∷ past) → IsDriven stands actor seen own w past
+      → IsDriven stands actor seen own v (Stopped ∷ past)
   driven_stopped w v past made stood d =
       driven_quiet w v past (Stopped ∷ past) made (record { turns = refl; deals = refl; once = λ o. o }) stood d
 
-  -- `IsDriven` still holds after the worker gave a command, since a command counts as a turn only once it is answered.
-  pub driven_asked : (w v : WorkerStanding P F) (past : WorkerPast) (at : ℕ) → v.made ≡ w.made
-      → StandsFor stands v (Gave_command at ∷ past) → IsDriven stands by seen own w past
-      → IsDriven stands by seen own v (Gave_command at ∷ past)
-  driven_asked w v past at made stood d =
-      driven_quiet w v past (Gave_command at ∷ past) made (record { turns = refl; deals = refl; once = λ o. o }) stood d
+  pub driven_asked : (w v : WorkerStanding P F) (past : WorkerPast) (moment : ℕ) → v.made ≡ w.made
+      → StandsFor stands v (Gave_command moment ∷ past) → IsDriven stands actor seen own w past
+      → IsDriven stands actor seen own v (Gave_command moment ∷ past)
+  driven_asked w v past moment made stood d =
+      driven_quiet w v past (Gave_command moment ∷ past) made (record { turns = refl; deals = refl; once = λ o. o })
+      stood d
 
-  -- `IsDriven` still holds if the pass has seen the turns `later`, which go on from `seen`.
   pub driven_later : (w : WorkerStanding P F) (past : WorkerPast) (later : List Turn) → Continues later seen
-      → IsDriven stands by seen own w past → IsDriven stands by later own w past
+      → IsDriven stands actor seen own w past → IsDriven stands actor later own w past
   driven_later w past later c d = record {
     stood = d.stood;
     own_are = d.own_are;
@@ -86,158 +81,156 @@ module _ {P F : Type 0} (stands : P → List Call → Type 0) (by : ℕ) (seen o
     told = λ h k same. d.told h (continues_all h later seen k c) same;
   }
 
-  -- `IsDriven` holds for a new worker whose pass has no turns of its own.
-  pub driven_new : (w : WorkerStanding P F) → StandsFor stands w [] → own ≡ [] → IsDriven stands by seen own w []
+  pub driven_new : (w : WorkerStanding P F) → StandsFor stands w [] → own ≡ [] → IsDriven stands actor seen own w []
   driven_new w stood none =
-      record { stood = stood; own_are = none; at_once = tt; told = λ h c same. none_told by h (same ∙ none) }
+      record { stood = stood; own_are = none; at_once = tt; told = λ h c same. none_told actor h (same ∙ none) }
 
 -- ---- A command that is answered
 
--- If the command `p` waits for its answer, the answer adds one turn, with this command.
-with_answer : (by at : ℕ) (what : Command) (o : Option Pending) (p : Pending) (turns : List Turn) → o ≡ Some p
-    → p.what ≡ what → with_turn by at o turns ≡ record { by = by; at = at; what = what } ∷ turns
-with_answer by at what o p turns is same =
-    ap (λ x. with_turn by at x turns) is ∙ ap (λ (c : Command). record { by = by; at = at; what = c } ∷ turns) same
+with_answer : (actor moment : ℕ) (command : Command) (o : Option Pending) (p : Pending) (turns : List Turn) → o ≡ Some p
+    → p.what ≡ command → with_turn actor moment o turns ≡ record { by = actor; at = moment; what = command } ∷ turns
+with_answer actor moment command o p turns is same =
+    ap (λ x. with_turn actor moment x turns) is
+    ∙ ap (λ (c : Command). record { by = actor; at = moment; what = c } ∷ turns) same
 
--- If the command `p` waits for its answer `a`, the answer adds one deal, this command with `a`.
-deal_answer : (what : Command) (a : Result Reply Refusal) (o : Option Pending) (p : Pending) (deals : List Deal)
-    → o ≡ Some p → p.what ≡ what → with_deal o a deals ≡ record { what = what; answer = a } ∷ deals
-deal_answer what a o p deals is same =
+deal_answer : (command : Command) (a : Result Reply Refusal) (o : Option Pending) (p : Pending) (deals : List Deal)
+    → o ≡ Some p → p.what ≡ command → with_deal o a deals ≡ record { what = command; answer = a } ∷ deals
+deal_answer command a o p deals is same =
     ap (λ x. with_deal x a deals) is ∙ ap (λ (c : Command). record { what = c; answer = a } ∷ deals) same
 
--- In this module, `IsDriven` holds for the worker `w`, which gave the command `what` at the moment `at` and so became
--- `u`.
-module _ {P F : Type 0} (stands : P → List Call → Type 0) (by : ℕ) (seen own : List Turn) (w u v : WorkerStanding P F)
-    (past : WorkerPast) (at : ℕ) (what : Command) (given : u.made ≡ w.made) (d : IsDriven stands by seen own w past)
-    (adds : AddsCommand stands w u at what) where
+-- `IsDriven` holds for `w`, which gave `what` at the moment `at` and became `u`.
+module _ {P F : Type 0} (stands : P → List Call → Type 0) (actor : ℕ) (seen own : List Turn)
+    (w u v : WorkerStanding P F)
+    (past : WorkerPast) (moment : ℕ) (command : Command) (is_given : u.made ≡ w.made)
+    (d : IsDriven stands actor seen own w past)
+    (adds : AddsCommand stands w u moment command) where
   turn : Turn
-  turn = record { by = by; at = at; what = what }
+  turn = record { by = actor; at = moment; what = command }
 
-  -- `IsDriven` holds for `u`, whose command waits for its answer.
-  pub asked_driven : IsDriven stands by seen own u (Gave_command at ∷ past)
-  asked_driven = driven_asked stands by seen own w u past at given (adds past d.stood).3 d
+  pub asked_driven : IsDriven stands actor seen own u (Gave_command moment ∷ past)
+  asked_driven = driven_asked stands actor seen own w u past moment is_given (adds past d.stood).3 d
 
-  -- The command of `u` that waits is the one that came next.
-  waits : (worker_after u.made (Gave_command at ∷ past)).waiting ≡ Some (adds past d.stood).0
-  waits = ap (λ m. next_pending m at (worker_after m past)) given ∙ (adds past d.stood).1
+  waits : (worker_after u.made (Gave_command moment ∷ past)).waiting ≡ Some (adds past d.stood).0
+  waits = ap (λ m. next_pending m moment (worker_after m past)) is_given ∙ (adds past d.stood).1
 
-  -- The answer adds one turn, with the command `what`.
-  pub last_turn : (before : List Turn) → with_turn by at (worker_after u.made (Gave_command at ∷ past)).waiting before
-      ≡ record { by = by; at = at; what = what } ∷ before
-  last_turn before = with_answer by at what (worker_after u.made (Gave_command at ∷ past)).waiting (adds past d.stood).0
-      before waits (adds past d.stood).2
+  pub last_turn : (old : List Turn)
+      → with_turn actor moment (worker_after u.made (Gave_command moment ∷ past)).waiting old
+      ≡ record { by = actor; at = moment; what = command } ∷ old
+  last_turn old = with_answer actor moment command (worker_after u.made (Gave_command moment ∷ past)).waiting
+      (adds past d.stood).0
+      old waits (adds past d.stood).2
 
-  -- If the command became a turn right after the turns `older`, and the worker took the answer to this turn and became
-  -- `v`, then `IsDriven` holds for `v` with this turn added.
   pub answered_driven : (older : List Turn) → Continues older seen
-      → turns_by by (record { by = by; at = at; what = what } ∷ older) ≡ record { by = by; at = at; what = what } ∷ own
+      → turns_by actor (record { by = actor; at = moment; what = command } ∷ older) ≡ record {
+        by = actor;
+        at = moment;
+        what = command;
+      } ∷ own
       → v.made ≡ u.made
-      → StandsFor stands v (Got_answer at (answer older (record { by = by; at = at; what = what }))
-      ∷ (Gave_command at ∷ past))
-      → IsDriven stands by (record { by = by; at = at; what = what } ∷ older) (record { by = by; at = at; what = what }
-      ∷ own) v (Got_answer at (answer older (record { by = by; at = at; what = what }))
-      ∷ (Gave_command at ∷ past))
+      → StandsFor stands v (Got_answer moment (answer older (record { by = actor; at = moment; what = command }))
+      ∷ (Gave_command moment ∷ past))
+      → IsDriven stands actor (record { by = actor; at = moment; what = command } ∷ older)
+      (record { by = actor; at = moment; what = command }
+      ∷ own) v (Got_answer moment (answer older (record { by = actor; at = moment; what = command }))
+      ∷ (Gave_command moment ∷ past))
   unfolding turn
   answered_driven older c all same stood =
       let a = answer older turn in
       let p = (adds past d.stood).0 in
       record {
         stood = stood;
-        own_are = ap (λ (l : List Turn). turn ∷ l) (d.own_are ∙ ap (λ m. turns_in by m past) (sym given))
-            ∙ sym (ap (λ m. with_turn by at (worker_after m (Gave_command at ∷ past)).waiting (turns_in by m past)) same
-            ∙ last_turn (turns_in by u.made past));
+        own_are = ap (λ (l : List Turn). turn ∷ l) (d.own_are ∙ ap (λ m. turns_in actor m past) (sym is_given))
+            ∙ sym (ap (λ m. with_turn actor moment (worker_after m (Gave_command moment ∷ past)).waiting
+            (turns_in actor m past)) same
+            ∙ last_turn (turns_in actor u.made past));
         at_once = (refl, d.at_once);
         told = λ h k alone. told_more turn older own h (deals_after w.made past) all k alone
             (d.told older c (before_own turn older own all))
-            ∙ sym (ap (λ m. deals_after m (Got_answer at a ∷ (Gave_command at ∷ past))) same
-            ∙ deal_answer what a (worker_after u.made (Gave_command at ∷ past)).waiting p (deals_after u.made past)
+            ∙ sym (ap (λ m. deals_after m (Got_answer moment a ∷ (Gave_command moment ∷ past))) same
+            ∙ deal_answer command a (worker_after u.made (Gave_command moment ∷ past)).waiting p
+            (deals_after u.made past)
             waits (adds past d.stood).2
-            ∙ ap (λ m. record { what = what; answer = a } ∷ deals_after m past) given);
+            ∙ ap (λ m. record { what = command; answer = a } ∷ deals_after m past) is_given);
       }
 
 -- ---- A turn of the pass
 
--- In this module, `IsDriven` holds for the worker `w` with the pass `before`. The worker gave the command `what` at the
--- moment `at` and so became `u`. `after` is the pass later.
-module _ {P F : Type 0} (stands : P → List Call → Type 0) (w u : WorkerStanding P F) (before after : PassValue)
-    (past : WorkerPast) (at : ℕ) (what : Command) (given : u.made ≡ w.made)
-    (d : IsDriven stands before.by before.seen before.own w past) (adds : AddsCommand stands w u at what)
-    (same : after.by ≡ before.by) where
-  asked_last : (n : ℕ) (turns : List Turn) → n ≡ before.by
-      → with_turn n at (worker_after u.made (Gave_command at ∷ past)).waiting turns ≡ record {
-        by = before.by;
-        at = at;
-        what = what;
+-- `IsDriven` holds for `w` with the pass `before`; `w` gave `what` and became `u`, and `after` is the pass later.
+module _ {P F : Type 0} (stands : P → List Call → Type 0) (w u : WorkerStanding P F) (old new : PassValue)
+    (past : WorkerPast) (moment : ℕ) (command : Command) (is_given : u.made ≡ w.made)
+    (d : IsDriven stands old.by old.seen old.own w past) (adds : AddsCommand stands w u moment command)
+    (same : new.by ≡ old.by) where
+  asked_last : (n : ℕ) (turns : List Turn) → n ≡ old.by
+      → with_turn n moment (worker_after u.made (Gave_command moment ∷ past)).waiting turns ≡ record {
+        by = old.by;
+        at = moment;
+        what = command;
       } ∷ turns
   asked_last n turns e =
-      ap (λ k. with_turn k at (worker_after u.made (Gave_command at ∷ past)).waiting turns) e
-      ∙ last_turn stands before.by before.seen before.own w u u past at what given d adds turns
+      ap (λ k. with_turn k moment (worker_after u.made (Gave_command moment ∷ past)).waiting turns) e
+      ∙ last_turn stands old.by old.seen old.own w u u past moment command is_given d adds turns
 
-  asked : IsDriven stands before.by before.seen before.own u (Gave_command at ∷ past)
-  asked = asked_driven stands before.by before.seen before.own w u u past at what given d adds
+  asked : IsDriven stands old.by old.seen old.own u (Gave_command moment ∷ past)
+  asked = asked_driven stands old.by old.seen old.own w u u past moment command is_given d adds
 
-  -- If the command became a turn with the answer `a`, and the worker took this answer and became `v`, then `HasTurned`
-  -- holds for `v`.
   pub has_turned : (v : WorkerStanding P F) (a : Result Reply Refusal)
-      → IsAnswered (record { by = before.by; at = at; what = what }) a before after → v.made ≡ u.made
-      → AddsAnswer stands u v at a → HasTurned stands after v at past
+      → IsAnswered (record { by = old.by; at = moment; what = command }) a old new → v.made ≡ u.made
+      → AddsAnswer stands u v moment a → HasTurned stands new v moment past
   has_turned v a t took absorbed =
-      let turn : Turn = record { by = before.by; at = at; what = what } in
-      let later : WorkerPast = Got_answer at (answer t.older turn) ∷ (Gave_command at ∷ past) in
-      let all : turns_by before.by (turn ∷ t.older) ≡ turn ∷ before.own =
+      let turn : Turn = record { by = old.by; at = moment; what = command } in
+      let later : WorkerPast = Got_answer moment (answer t.older turn) ∷ (Gave_command moment ∷ past) in
+      let all : turns_by old.by (turn ∷ t.older) ≡ turn ∷ old.own =
       sym (ap₂ turns_by same t.seen) ∙ t.all_own ∙ t.own in
       let stood : StandsFor stands v later =
-      subst (λ x. StandsFor stands v (Got_answer at x ∷ (Gave_command at ∷ past))) t.answered
-      (absorbed (Gave_command at ∷ past) (adds past d.stood).3) in
-      let base : IsDriven stands before.by (turn ∷ t.older) (turn ∷ before.own) v later =
-      answered_driven stands before.by before.seen before.own w u v past at what given d adds t.older t.later all
+      subst (λ x. StandsFor stands v (Got_answer moment x ∷ (Gave_command moment ∷ past))) t.answered
+      (absorbed (Gave_command moment ∷ past) (adds past d.stood).3) in
+      let base : IsDriven stands old.by (turn ∷ t.older) (turn ∷ old.own) v later =
+      answered_driven stands old.by old.seen old.own w u v past moment command is_given d adds t.older t.later all
       took stood in
       record {
         answer = answer t.older turn;
-        driven = subst (λ n. IsDriven stands n after.seen after.own v later) (sym same)
-            (subst (λ s. IsDriven stands before.by s after.own v later) (sym t.seen)
-            (subst (λ o. IsDriven stands before.by (turn ∷ t.older) o v later) (sym t.own) base));
+        driven = subst (λ n. IsDriven stands n new.seen new.own v later) (sym same)
+            (subst (λ s. IsDriven stands old.by s new.own v later) (sym t.seen)
+            (subst (λ o. IsDriven stands old.by (turn ∷ t.older) o v later) (sym t.own) base));
         alone = t.all_own;
       }
 
-  -- If the command became a turn, and memory ran out when the worker took the answer, so that the worker stayed as it
-  -- was, then the run was cut short (`WasCut`).
+  -- Memory ran out while the answer to a turn was taken.
   pub answer_failed : (v : WorkerStanding P F) (a : Result Reply Refusal)
-      → IsAnswered (record { by = before.by; at = at; what = what }) a before after → v ≡ u → IsSome u.waiting
-      → (e : TurnErr) → e ≡ failed.Memory → WasCut stands v after e
+      → IsAnswered (record { by = old.by; at = moment; what = command }) a old new → v ≡ u → IsSome u.waiting
+      → (e : TurnErr) → e ≡ failed.Memory → WasCut stands v new e
   answer_failed v a t kept some e is =
-      let turn : Turn = record { by = before.by; at = at; what = what } in
-      let all : turns_by before.by (turn ∷ t.older) ≡ turn ∷ before.own =
+      let turn : Turn = record { by = old.by; at = moment; what = command } in
+      let all : turns_by old.by (turn ∷ t.older) ≡ turn ∷ old.own =
       sym (ap₂ turns_by same t.seen) ∙ t.all_own ∙ t.own in
-      let there : IsDriven stands before.by t.older before.own u (Gave_command at ∷ past) =
-      driven_later stands before.by before.seen before.own u (Gave_command at ∷ past) t.older t.later asked in
-      subst (λ x. WasCut stands x after e) (sym kept) (inr (inr (record {
+      let there : IsDriven stands old.by t.older old.own u (Gave_command moment ∷ past) =
+      driven_later stands old.by old.seen old.own u (Gave_command moment ∷ past) t.older t.later asked in
+      subst (λ x. WasCut stands x new e) (sym kept) (inr (inr (record {
         error = is;
         waits = some;
         past = past;
-        at = at;
+        at = moment;
         last = turn;
         older = t.older;
-        before = before.own;
+        before = old.own;
         seen = t.seen;
         own = t.own;
-        alone = ap (λ n. turns_by n t.older) same ∙ before_own turn t.older before.own all;
-        is_last = asked_last after.by before.own same;
-        driven = subst (λ n. IsDriven stands n t.older before.own u (Gave_command at ∷ past)) (sym same) there;
+        alone = ap (λ n. turns_by n t.older) same ∙ before_own turn t.older old.own all;
+        is_last = asked_last new.by old.own same;
+        driven = subst (λ n. IsDriven stands n t.older old.own u (Gave_command moment ∷ past)) (sym same) there;
       })))
 
-  -- If the command became no turn, the run was cut short (`WasCut`). The error is Spent exactly if the pass has seen
-  -- 2^64 - 1 turns.
-  pub turn_failed : (e : TurnErr) → Continues after.seen before.seen → after.own ≡ before.own → (e ≡ failed.Spent)
-      ↔ (length after.seen + 1 ≡ 2 ^ 64) → IsSome u.waiting → WasCut stands u after e
+  -- The command became no turn.
+  pub turn_failed : (e : TurnErr) → Continues new.seen old.seen → new.own ≡ old.own → (e ≡ failed.Spent)
+      ↔ (length new.seen + 1 ≡ 2 ^ 64) → IsSome u.waiting → WasCut stands u new e
   turn_failed e seen own spent some =
-      let there : IsDriven stands before.by after.seen before.own u (Gave_command at ∷ past) =
-      driven_later stands before.by before.seen before.own u (Gave_command at ∷ past) after.seen seen asked in
+      let there : IsDriven stands old.by new.seen old.own u (Gave_command moment ∷ past) =
+      driven_later stands old.by old.seen old.own u (Gave_command moment ∷ past) new.seen seen asked in
       inr (inl (record {
         spent = spent;
         waits = some;
         past = past;
-        at = at;
-        driven = subst (λ n. IsDriven stands n after.seen after.own u (Gave_command at ∷ past)) (sym same)
-            (subst (λ o. IsDriven stands before.by after.seen o u (Gave_command at ∷ past)) (sym own) there);
+        at = moment;
+        driven = subst (λ n. IsDriven stands n new.seen new.own u (Gave_command moment ∷ past)) (sym same)
+            (subst (λ o. IsDriven stands old.by new.seen o u (Gave_command moment ∷ past)) (sym own) there);
       }))

@@ -1,5 +1,4 @@
--- A worker has a due call, or is idle, exactly if this is so in the state after the record for which the worker stands.
--- These lemmas conclude what callers see of a worker from this state.
+-- Due calls and idleness of a worker, from the state after its trace.
 use Rattle.std.proofs.Common.{rules, ◌≡◌, false, List, [], ◌∷◌, Option, Some, None, refl, sym, ap, subst, ◌∙◌}
 use Rattle.std.specs.Prelude.{◌&&◌, cond, not, is_some, IsSome}
 use Rattle.std.specs.List.{find}
@@ -15,7 +14,6 @@ use Rattle.kcl_worker.proofs.Happenings.{stage_known}
 use Rattle.kcl_worker.proofs.Outlooks.{none_due}
 use Rattle.kcl_worker.specs.Standing.{ConsumersStand, StandsFor, WorkerStanding, is_due_in, is_giving_in, is_idle_in}
 
--- If none of the record's consumers has a due call, none of the worker's consumers `cs` has a due call.
 none_due_in : {P : Type 0} (stands : P → List Call → Type 0) (cs : List (ConsumerValue P)) (ks : List Known)
     → find is_due_known ks ≡ None → ConsumersStand stands cs ks → due_in cs ≡ None
 none_due_in stands [] [] none s = refl
@@ -34,11 +32,9 @@ none_due_in stands (c ∷ cs) (k ∷ ks) none s =
 some_is : {A : Type 0} (x : A) → IsSome (Some x)
 some_is x = search rules
 
--- If `o` is the same Option as `u`, and `u` has a value, then `o` has a value.
 pub is_some_of : {A : Type 0} (o u : Option A) (x : A) → o ≡ u → u ≡ Some x → IsSome o
 is_some_of o u x e is = subst IsSome (sym (e ∙ is)) (some_is x)
 
--- If `o` has a value, and `o` is None if `u` is, then `u` has a value.
 some_due : (o u : Option (ShardRef × Due)) → IsSome o → (u ≡ None → o ≡ None) → IsSome u
 some_due o (Some due) some same = due_is
   where
@@ -50,8 +46,7 @@ some_due (Some due) None some same = absurd (no_none (same refl))
     no_none : Some due ≡ None → ⊥
     no_none e = absurd cc
 
--- If the worker `w` has a due call, so has each worker `v` that was made with the same settings and stands for the same
--- record.
+-- Workers that stand for the same trace have due calls alike.
 pub due_again : {P F : Type 0} (stands : P → List Call → Type 0) (w v : WorkerStanding P F) (past : WorkerPast)
     → v.made ≡ w.made → StandsFor stands w past → StandsFor stands v past → IsSome (due_in w.consumers)
     → IsSome (due_in v.consumers)
@@ -61,7 +56,6 @@ due_again stands w v past made s t some =
     (ap (λ m. find is_due_known (worker_after m past).consumers) (sym made)
     ∙ none_due stands v.consumers (worker_after v.made past).consumers none t.shows.consumers) s.shows.consumers)
 
--- If a worker isn't stopped in the state after its record, the worker isn't idle.
 pub not_idle : {P F : Type 0} (stands : P → List Call → Type 0) (w : WorkerStanding P F) (past : WorkerPast)
     → StandsFor stands w past → is_stopping (worker_after w.made past).round ≡ false → is_idle_in w ≡ false
 not_idle stands w past s going =

@@ -1,6 +1,4 @@
--- In a round, a worker makes its due calls and one turn. Before its stop, the worker is still going after a round
--- (`IsGoing`). After its stop, the worker is still finishing after a round (`IsFinishing`). In each case, the worker's
--- answered commands are the turns of its pass.
+-- In a round a worker makes its due calls and one turn; it is going before its stop, and finishing after it.
 use Rattle.std.proofs.Common.{◌≡◌, ℕ, ◌+◌, ◌*◌, ◌≤◌, false, List, [], ◌∷◌, length, None, refl, sym, ap, subst, ◌∙◌}
 use Rattle.std.proofs.Common.{arith, inl}
 use Rattle.std.specs.Prelude.{IsSome}
@@ -25,14 +23,13 @@ use Rattle.kcl_live.proofs.Ending.{not_idle}
 use Rattle.kcl_live.proofs.Stopping.{calls_stopped, filter_fewer, some_left, stop_stops, turn_stopped}
 
 module _ {P F : Type 0} (stands : P → List Call → Type 0) where
-  -- Between the workers `w` and `u`, nothing has happened but calls of processors.
+  -- Only processor calls happened between the two workers.
   abbrev pub HasCalled : WorkerStanding P F → WorkerStanding P F → Type 0
   HasCalled w u = (past : WorkerPast) → StandsFor stands w past → (asked : List Ask)
       × StandsFor stands u (with_calls asked past)
 
   -- ---- Before the stop
 
-  -- A new worker whose pass has no turns of its own is going (`IsGoing`).
   pub going_new : (w : WorkerStanding P F) (p : PassValue) → StandsFor stands w [] → p.own ≡ [] → IsGoing stands w p
   going_new w p stood none = record {
     past = [];
@@ -41,7 +38,6 @@ module _ {P F : Type 0} (stands : P → List Call → Type 0) where
     going = refl;
   }
 
-  -- A worker that is going (`IsGoing`) is still going after calls of its processors.
   pub going_called : (w u : WorkerStanding P F) (p : PassValue) → u.made ≡ w.made → HasCalled w u → IsGoing stands w p
       → IsGoing stands u p
   going_called w u p made called g =
@@ -54,27 +50,23 @@ module _ {P F : Type 0} (stands : P → List Call → Type 0) where
             ∙ calls_on w.made r.0 g.past g.going;
       }
 
-  -- A worker that is going (`IsGoing`) isn't idle.
   pub going_busy : (w : WorkerStanding P F) (p : PassValue) → IsGoing stands w p → is_idle_in w ≡ false
   going_busy w p g = not_idle stands w g.past g.driven.stood g.going
 
-  -- If a worker that is going (`IsGoing`) made one turn (`HasTurned`), it is still going.
-  pub going_turned : (u v : WorkerStanding P F) (p q : PassValue) (at : ℕ) → v.made ≡ u.made
-      → ((past : WorkerPast) → IsDriven stands p.by p.seen p.own u past → HasTurned stands q v at past)
+  pub going_turned : (u v : WorkerStanding P F) (p q : PassValue) (moment : ℕ) → v.made ≡ u.made
+      → ((past : WorkerPast) → IsDriven stands p.by p.seen p.own u past → HasTurned stands q v moment past)
       → IsGoing stands u p → IsGoing stands v q
-  going_turned u v p q at made turned g =
+  going_turned u v p q moment made turned g =
       let t = turned g.past g.driven in
-      let later : WorkerPast = Got_answer at t.answer ∷ (Gave_command at ∷ g.past) in
+      let later : WorkerPast = Got_answer moment t.answer ∷ (Gave_command moment ∷ g.past) in
       record {
         past = later;
         driven = t.driven;
         alone = λ some. t.alone;
         going = ap (λ m. is_stopping (worker_after m later).round) made
-            ∙ answered_on u.made at at t.answer g.past g.going;
+            ∙ answered_on u.made moment moment t.answer g.past g.going;
       }
 
-  -- If memory ran out in a call of a processor of a worker that is going (`IsGoing`), the worker's run was cut short
-  -- (`WasCut`).
   pub going_failed : (w u : WorkerStanding P F) (p : PassValue) (e : TurnErr) → u.made ≡ w.made → HasCalled w u
       → IsGoing stands w p → IsSome (due_in u.consumers) → e ≡ failed.Memory → WasCut stands u p e
   going_failed w u p e made called g due is =
@@ -83,8 +75,7 @@ module _ {P F : Type 0} (stands : P → List Call → Type 0) where
 
   -- ---- The stop
 
-  -- If a worker that is going is stopped after `turns` turns, it makes at most 3 * `turns` turns in all
-  -- (`IsFinishing`).
+  -- Stopped after `turns` turns, the worker makes at most 3 * `turns` in all.
   pub going_stopped : (w u : WorkerStanding P F) (p : PassValue) (turns : ℕ) → u.made ≡ w.made → AddsStop stands w u
       → length p.own ≡ turns → IsGoing stands w p → IsFinishing stands u p (3 * turns)
   going_stopped w u p turns made stop count g =
@@ -102,7 +93,6 @@ module _ {P F : Type 0} (stands : P → List Call → Type 0) where
 
   -- ---- After the stop
 
-  -- A stopped worker that is finishing (`IsFinishing`) is still finishing after calls of its processors.
   pub finishing_called : (w u : WorkerStanding P F) (p : PassValue) (most : ℕ) → u.made ≡ w.made → HasCalled w u
       → IsFinishing stands w p most → IsFinishing stands u p most
   finishing_called w u p most made called f =
@@ -119,34 +109,29 @@ module _ {P F : Type 0} (stands : P → List Call → Type 0) where
         few = omega (arith, f.few, less);
       }
 
-  -- If a worker that is finishing has no due call, then no call is due in the state after its record.
   quiet : (w : WorkerStanding P F) (p : PassValue) (most : ℕ) → (f : IsFinishing stands w p most)
       → due_in w.consumers ≡ None → find is_due_known (worker_after w.made f.past).consumers ≡ None
   quiet w p most f none =
       none_due stands w.consumers (worker_after w.made f.past).consumers none f.driven.stood.shows.consumers
 
-  -- If a worker that is finishing isn't idle, then it isn't idle in the state after its record.
   busy : (w : WorkerStanding P F) (p : PassValue) (most : ℕ) → (f : IsFinishing stands w p most) → is_idle_in w ≡ false
       → is_idle (worker_after w.made f.past) ≡ false
   busy w p most f is = sym (idle_same stands w f.past f.driven.stood) ∙ is
 
-  -- A worker that is finishing, isn't idle and has no due call may still make a turn: its pass has made fewer than
-  -- `most` turns.
+  -- A finishing worker without a due call that isn't idle has a turn left.
   pub finishing_left : (w : WorkerStanding P F) (p : PassValue) (most : ℕ) → IsFinishing stands w p most
       → due_in w.consumers ≡ None → is_idle_in w ≡ false → length p.own + 1 ≤ most
   finishing_left w p most f none is =
       omega (arith, f.few, some_left w.made f.past f.stopped (quiet w p most f none) (busy w p most f is))
 
-  -- If a worker that is finishing, isn't idle and has no due call made one more turn, it is still finishing, with the
-  -- same bound `most`.
-  pub finishing_turned : (u v : WorkerStanding P F) (p q : PassValue) (most at : ℕ) → v.made ≡ u.made
-      → due_in u.consumers ≡ None → is_idle_in u ≡ false → HasAdded at p.own q.own
-      → ((past : WorkerPast) → IsDriven stands p.by p.seen p.own u past → HasTurned stands q v at past)
+  pub finishing_turned : (u v : WorkerStanding P F) (p q : PassValue) (most moment : ℕ) → v.made ≡ u.made
+      → due_in u.consumers ≡ None → is_idle_in u ≡ false → HasAdded moment p.own q.own
+      → ((past : WorkerPast) → IsDriven stands p.by p.seen p.own u past → HasTurned stands q v moment past)
       → IsFinishing stands u p most → IsFinishing stands v q most
-  finishing_turned u v p q most at made none is added turned f =
+  finishing_turned u v p q most moment made none is added turned f =
       let t = turned f.past f.driven in
-      let later : WorkerPast = Got_answer at t.answer ∷ (Gave_command at ∷ f.past) in
-      let s = turn_stopped u.made at t.answer f.past f.stopped (quiet u p most f none) (busy u p most f is) in
+      let later : WorkerPast = Got_answer moment t.answer ∷ (Gave_command moment ∷ f.past) in
+      let s = turn_stopped u.made moment t.answer f.past f.stopped (quiet u p most f none) (busy u p most f is) in
       let less : turns_left (worker_after v.made later) + 1 ≤ turns_left (worker_after u.made f.past) =
       subst (λ m. turns_left (worker_after m later) + 1 ≤ turns_left (worker_after u.made f.past)) (sym made) s.1 in
       record {
@@ -157,13 +142,10 @@ module _ {P F : Type 0} (stands : P → List Call → Type 0) where
         few = omega (arith, f.few, less, ap length added.1);
       }
 
-  -- If a worker is finishing, each of its commands became a turn and was answered (`HasRun`).
   pub finishing_run : (w : WorkerStanding P F) (p : PassValue) (most : ℕ) → IsFinishing stands w p most
       → HasRun stands w p
   finishing_run w p most f = record { past = f.past; driven = f.driven; alone = f.alone }
 
-  -- If memory ran out in a call of a processor of a worker that is finishing, the worker's run was cut short
-  -- (`WasCut`).
   pub finishing_failed : (w u : WorkerStanding P F) (p : PassValue) (most : ℕ) (e : TurnErr) → u.made ≡ w.made
       → HasCalled w u → IsFinishing stands w p most → IsSome (due_in u.consumers) → e ≡ failed.Memory
       → WasCut stands u p e

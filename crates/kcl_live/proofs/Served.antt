@@ -1,5 +1,4 @@
--- If the answered commands of a worker are the turns of its pass (`IsDriven`), the worker's processors are called for
--- the given reads of their tenures. `law`, which is taken as given, says so for one history.
+-- A worker whose commands are its pass's turns has its processors called for their given reads, by `law`.
 use Rattle.std.proofs.Common.{ℕ, List, ◌∷◌, inl, inr}
 use Rattle.kds_defs.specs.declared.command.Turn.{Turn}
 use Rattle.kcl_defs.specs.declared.consumer.Call.{Call}
@@ -12,21 +11,15 @@ use Rattle.kcl_live.specs.Records.{AreServedLater, IsDriven}
 use Rattle.kcl_live.specs.Runs.{AreServedSoFar, HasRun, WasCut}
 
 module _ {P F : Type 0} (stands : P → List Call → Type 0) (w : WorkerStanding P F)
-    (law : (by : ℕ) (h : List Turn) (past : WorkerPast) → StandsFor stands w past → IsToldIn by h w.made past
-    → AreServedIn stands by h w) where
-  -- If `IsDriven` holds, the worker's processors are called for the given reads of their tenures, in each history that
-  -- goes on without further turns of the actor.
-  driven_served : (by : ℕ) (seen own : List Turn) (past : WorkerPast) → IsDriven stands by seen own w past
-      → AreServedLater stands by seen own w
-  driven_served by seen own past d = λ h c same. law by h past d.stood (d.told h c same)
+    (law : (actor : ℕ) (h : List Turn) (past : WorkerPast) → StandsFor stands w past → IsToldIn actor h w.made past
+    → AreServedIn stands actor h w) where
+  driven_served : (actor : ℕ) (seen own : List Turn) (past : WorkerPast) → IsDriven stands actor seen own w past
+      → AreServedLater stands actor seen own w
+  driven_served actor seen own past d = λ h c same. law actor h past d.stood (d.told h c same)
 
-  -- If each command of the worker became a turn and was answered, the worker's processors are called for the given
-  -- reads of their tenures (`AreServedLater`).
   pub run_served : (p : PassValue) → HasRun stands w p → AreServedLater stands p.by p.seen p.own w
   run_served p r = driven_served p.by p.seen p.own r.past r.driven
 
-  -- If the run was cut short, the worker's processors were called for the given reads of their tenures, after all turns
-  -- of the pass or after all but the last.
   pub cut_served : (p : PassValue) (e : TurnErr) → WasCut stands w p e → AreServedSoFar stands w p
   cut_served p e (inl f) = inl (run_served p f.run)
   cut_served p e (inr (inl f)) = inl (driven_served p.by p.seen p.own (Gave_command f.at ∷ f.past) f.driven)

@@ -1,5 +1,4 @@
--- A stopped worker gives each batch that a processor was handed once, and frees each lease once. So the worker has
--- fewer turns left after each turn (`turns_left`), until it is idle.
+-- A stopped worker gives each handed batch and frees each lease once, so its turns left decrease until it is idle.
 use Rattle.std.proofs.Common.{◌≡◌, ℕ, suc, ◌+◌, ◌≤◌, Bool, true, false, List, [], ◌∷◌, length, Option, Some, None}
 use Rattle.std.proofs.Common.{Result, Ok, Err, refl, sym, ap, ap₂, subst, ◌∙◌, arith}
 use Rattle.std.specs.Prelude.{◌&&◌, cond, if◌then◌else◌, is_some, not}
@@ -36,11 +35,10 @@ AreLost ks = AllByRecursion (λ k. IsLost (stage_of_known k)) ks
 abbrev AreLostOrOver : List Known → Type 0
 AreLostOrOver ks = AllByRecursion (λ k. is_over k ≡ false → IsLost (stage_of_known k)) ks
 
--- The number of consumers whose next command is a Give (`is_giving`).
+-- The number of consumers whose next command is a Give.
 abbrev givings : List Known → ℕ
 givings ks = length (filter is_giving ks)
 
--- If each consumer has lost its lease or is over, each of those that aren't over has lost its lease.
 settled_lost : (ks : List Known) → AreLostOrOver ks → AreLost (filter (λ k. not (is_over k)) ks)
 settled_lost [] all = tt
 settled_lost (k ∷ ks) all =
@@ -49,45 +47,36 @@ settled_lost (k ∷ ks) all =
     cond_both (not (is_over k)) (k ∷ rest) rest AreLost (λ stays. (all.0 (not-true (is_over k) stays), lost))
     (λ over. lost)
 
--- If each consumer has lost its lease, each has lost its lease or is over.
 lost_or_over : (ks : List Known) → AreLost ks → AreLostOrOver ks
 lost_or_over [] all = tt
 lost_or_over (k ∷ ks) all = ((λ e. all.0), lost_or_over ks all.1)
 
--- A consumer whose next command is a Give counts once in `givings`.
 count_giving : (k : Known) (ks : List Known) → is_giving k ≡ true → givings (k ∷ ks) ≡ suc (givings ks)
 count_giving k ks e = ap (λ b. length (cond b (k ∷ filter is_giving ks) (filter is_giving ks))) e
 
--- A consumer whose next command isn't a Give doesn't count in `givings`.
 count_quiet : (k : Known) (ks : List Known) → is_giving k ≡ false → givings (k ∷ ks) ≡ givings ks
 count_quiet k ks e = ap (λ b. length (cond b (k ∷ filter is_giving ks) (filter is_giving ks))) e
 
--- The number `givings` of a list of consumers is at least that of the same list without its first consumer.
 no_less : (b : Bool) (k : Known) (ks : List Known) → is_giving k ≡ b → givings ks ≤ givings (k ∷ ks)
 no_less true k ks e = omega (arith, count_giving k ks e)
 no_less false k ks e = omega (arith, count_quiet k ks e)
 
--- If `givings ks` is at most `givings js`, then `givings` of `k` before `ks` is at most `givings` of `k` before `js`.
 one_more : (b : Bool) (k : Known) (ks js : List Known) → is_giving k ≡ b → givings ks ≤ givings js
     → givings (k ∷ ks) ≤ givings (k ∷ js)
 one_more true k ks js e h = omega (arith, h, count_giving k ks e, count_giving k js e)
 one_more false k ks js e h = omega (arith, h, count_quiet k ks e, count_quiet k js e)
 
--- If `givings ks` is at most `givings js`, then `givings` of `ks`, with or without `k` before it, is at most `givings`
--- of `k` before `js`.
 fewer_by : (c : Bool) (k : Known) (ks js : List Known) → givings ks ≤ givings js
     → givings (cond c (k ∷ ks) ks) ≤ givings (k ∷ js)
 fewer_by true k ks js h = one_more (is_giving k) k ks js refl h
 fewer_by false k ks js h = omega (arith, h, no_less (is_giving k) k js refl)
 
--- The number `givings` of those of the consumers `ks` for which the test `t` is true is at most `givings ks`.
 part_fewer : (t : Known → Bool) (ks : List Known) → givings (filter t ks) ≤ givings ks
 part_fewer t [] = omega arith
 part_fewer t (k ∷ ks) = fewer_by (t k) k (filter t ks) ks (part_fewer t ks)
 
 -- ---- A stop
 
--- If a consumer isn't over after the loss of its lease, it is in a stage of a lost lease (`IsLost`).
 after_loss_lost : (p : Stage) → is_some (over_at (after_loss p)) ≡ false → IsLost (after_loss p)
 after_loss_lost Opening h = absurd cc
 after_loss_lost Starting h = absurd cc
@@ -97,12 +86,10 @@ after_loss_lost (Giving reach waiting asked lost) h =
     (λ none. tt)
 after_loss_lost _ h = tt
 
--- After the loss of all leases, each consumer has lost its lease or is over.
 losing_lost : (ks : List Known) → AreLostOrOver (happens_to (λ k. true) Losing ks)
 losing_lost [] = tt
 losing_lost (k ∷ ks) = ((λ e. after_loss_lost (stage_of_known k) e), losing_lost ks)
 
--- A worker whose newest event is the stop is stopped, and each of its consumers has lost its lease (`IsStopped`).
 pub stop_stops : (made : WorkerMade) (past : WorkerPast) → IsStopped (worker_after made (Stopped ∷ past))
 stop_stops made past =
     record {
@@ -113,15 +100,12 @@ stop_stops made past =
 
 -- ---- A call
 
--- If a consumer has lost its lease and a processor call is due, the consumer is over after this call, and no Give comes
--- next.
 called_lost : (made : Tenancy) (a : Ask) (p : Stage) → IsLost p → is_some (due_call p) ≡ true
     → (is_some (over_at (after_call made a p)) ≡ true) × (is_giving_stage (after_call made a p) ≡ false)
 called_lost made a (Leaving why) l d = (refl, refl)
 called_lost made a (Giving reach waiting asked lost) l d = absurd cc
 called_lost made a _ l d = absurd l
 
--- If each consumer has lost its lease, then after the first due call each consumer has lost its lease or is over.
 calling_lost : (a : Ask) (ks : List Known) → AreLost ks → AreLostOrOver (happens_to_first is_due_known (Called a) ks)
 calling_lost a [] all = tt
 calling_lost a (k ∷ ks) all =
@@ -132,7 +116,6 @@ calling_lost a (k ∷ ks) all =
     (λ due. ((λ over. absurd (apart (is_over called) (leaves due) over)), lost_or_over ks all.1))
     (λ quiet. ((λ over. all.0), calling_lost a ks all.1))
 
--- If each consumer has lost its lease, `givings` isn't greater after the first due call than before.
 calling_fewer : (a : Ask) (ks : List Known) → AreLost ks
     → givings (happens_to_first is_due_known (Called a) ks) ≤ givings ks
 calling_fewer a [] all = omega arith
@@ -148,7 +131,7 @@ calling_fewer a (k ∷ ks) all = one (is_due_known k) refl (calling_fewer a ks a
     )
     one false e rest = one_more (is_giving k) k (happens_to_first is_due_known (Called a) ks) ks refl rest
 
--- After calls of its processors, a stopped worker is still stopped, and has at most as many turns left as before.
+-- Processor calls keep a worker stopped, and add no turns left.
 pub calls_stopped : (made : WorkerMade) (asked : List Ask) (past : WorkerPast) → IsStopped (worker_after made past)
     → IsStopped (worker_after made (with_calls asked past))
     × (turns_left (worker_after made (with_calls asked past)) ≤ turns_left (worker_after made past))
@@ -163,8 +146,6 @@ calls_stopped made (a ∷ asked) past s =
 
 -- ---- A turn
 
--- If a consumer has lost its lease and no processor call is due, its next command is a Give. After the answer to this
--- Give, no further Give comes next, and the consumer is still in a stage of a lost lease (`IsLost`).
 answered_lost : (made : Tenancy) (a : Result Reply Refusal) (p : Stage) → IsLost p → is_some (due_call p) ≡ false
     → IsLost (after_answer made a p) × (is_giving_stage (after_answer made a p) ≡ false) × (is_giving_stage p ≡ true)
 answered_lost made (Ok reply) (Giving reach [] asked true) l d = (tt, refl, refl)
@@ -174,23 +155,18 @@ answered_lost made a (Giving reach waiting asked false) l d = absurd cc
 answered_lost made a (Leaving why) l d = absurd cc
 answered_lost made a _ l d = absurd l
 
--- If a search by a test found nothing, the test isn't true for the first item.
 first_quiet : (b : Bool) (k : Known) (rest : Option Known) → cond b (Some k) rest ≡ None → b ≡ false
 first_quiet true k rest e = absurd cc
 first_quiet false k rest e = refl
 
--- If a test is true for the first item, a search by this test finds the first item.
 first_of : (k j : Known) (rest : Option Known) (b : Bool) → b ≡ true → cond b (Some j) rest ≡ Some k → j ≡ k
 first_of k j rest true e h = cc
 first_of k j rest false e h = absurd cc
 
--- A lease's identity is the same as itself.
 same_id_self : (id : TenancyId) → same_id id id ≡ true
 same_id_self id = ap₂ (λ a b. a && b) (ap₂ (λ a b. a && b) (is_itself id.key.stream) (is_itself id.key.shard))
     (is_itself id.tenure)
 
--- Each consumer has lost its lease, no call is due, and `k` is the first consumer whose next command is a Give. After
--- `k` takes the answer to this Give, `givings` is one less, and each consumer has lost its lease or is over.
 giving_first : (a : Result Reply Refusal) (ks : List Known) (k : Known) → AreLost ks → find is_due_known ks ≡ None
     → find is_giving ks ≡ Some k
     → AreLostOrOver (consumed (id_of k) a ks) × (givings (consumed (id_of k) a ks) + 1 ≡ givings ks)
@@ -208,43 +184,40 @@ giving_first a (j ∷ js) k all none found =
       omega (arith, ap givings now, count_quiet (with_event (Answered a) j) js l.1, count_giving j js l.2),
     )
 
--- The state `s` leads to the state `t` by a command and its answer. In `t` the worker is stopped, and has at least one
--- turn less left than in `s`.
+-- From `s` to `t` a command was answered; the worker is stopped and has fewer turns left.
 record Leaves (s t : WorkerState) : Type 0 where
   stopped : IsStopped t
   fewer : turns_left t + 1 ≤ turns_left s
 
--- If the next command of a stopped worker is a Give, the worker is still stopped after the answer, and has at least one
--- turn less left (`Leaves`).
-finished : (made : WorkerMade) (at : ℕ) (a : Result Reply Refusal) (s : WorkerState) (k : Known) → IsStopped s
+finished : (made : WorkerMade) (moment : ℕ) (a : Result Reply Refusal) (s : WorkerState) (k : Known) → IsStopped s
     → find is_due_known s.consumers ≡ None → find is_giving s.consumers ≡ Some k → (o : Option Pending)
-    → o ≡ next_pending made at s
-    → Leaves s (absorbed made at a (record s { waiting = o }) o)
-finished made at a s k stopped none found o is =
+    → o ≡ next_pending made moment s
+    → Leaves s (absorbed made moment a (record s { waiting = o }) o)
+finished made moment a s k stopped none found o is =
     let p : Pending = record { chore = Finishing (id_of k); what = command.Give k.made.tenure } in
-    let next : o ≡ Some p = is ∙ ap (λ r. pending_chore made s (chore_from made.settings.failover at s r)) stopped.round
+    let next : o ≡ Some p =
+    is ∙ ap (λ r. pending_chore made s (chore_from made.settings.failover moment s r)) stopped.round
     ∙ ap (λ f. pending_chore made s (stopping_chore s f)) found in
     let g = giving_first a s.consumers k stopped.lost none found in
-    subst (λ q. Leaves s (absorbed made at a (record s { waiting = q }) q)) (sym next) (record {
+    subst (λ q. Leaves s (absorbed made moment a (record s { waiting = q }) q)) (sym next) (record {
       stopped = record { round = stopped.round; lost = settled_lost (consumed (id_of k) a s.consumers) g.0 };
       fewer = omega (arith, g.1, part_fewer (λ j. not (is_over j)) (consumed (id_of k) a s.consumers));
     })
 
--- If the next command of a stopped worker frees a lease, the worker is still stopped after the answer, and has at least
--- one turn less left (`Leaves`).
-freed : (made : WorkerMade) (at : ℕ) (a : Result Reply Refusal) (s : WorkerState) (h : Held) (hs : List Held)
+freed : (made : WorkerMade) (moment : ℕ) (a : Result Reply Refusal) (s : WorkerState) (h : Held) (hs : List Held)
     → IsStopped s → s.held ≡ h ∷ hs → find is_giving s.consumers ≡ None → (o : Option Pending)
-    → o ≡ next_pending made at s
-    → Leaves s (absorbed made at a (record s { waiting = o }) o)
-freed made at a s h hs stopped held none o is =
+    → o ≡ next_pending made moment s
+    → Leaves s (absorbed made moment a (record s { waiting = o }) o)
+freed made moment a s h hs stopped held none o is =
     let p : Pending = record { chore = Freeing h; what = command.Free h.tenure h.counter } in
-    let next : o ≡ Some p = is ∙ ap (λ r. pending_chore made s (chore_from made.settings.failover at s r)) stopped.round
+    let next : o ≡ Some p =
+    is ∙ ap (λ r. pending_chore made s (chore_from made.settings.failover moment s r)) stopped.round
     ∙ ap (λ f. pending_chore made s (stopping_chore s f)) none
     ∙ ap (λ l. pending_chore made s (freeing_chore l)) held in
     let id = id_of_held h in
     let gone : without_held id (h ∷ hs) ≡ without_held id hs =
     ap (λ b. cond (not b) (h ∷ without_held id hs) (without_held id hs)) (same_id_self id) in
-    subst (λ q. Leaves s (absorbed made at a (record s { waiting = q }) q)) (sym next) (record {
+    subst (λ q. Leaves s (absorbed made moment a (record s { waiting = q }) q)) (sym next) (record {
       stopped = record {
         round = stopped.round;
         lost = settled_lost s.consumers (lost_or_over s.consumers stopped.lost);
@@ -259,7 +232,6 @@ freed made at a s h hs stopped held none o is =
       );
     })
 
--- A stopped worker is idle if no call is due, no consumer's next command is a Give, and the worker holds no lease.
 idle_then : (s : WorkerState) → IsStopped s → find is_due_known s.consumers ≡ None → find is_giving s.consumers ≡ None
     → s.held ≡ [] → is_idle s ≡ true
 idle_then s stopped due giving held =
@@ -270,39 +242,34 @@ idle_then s stopped due giving held =
     ∙ ap (λ b. not b && is_nothing_held s.held) (none_found_any is_giving s.consumers giving)
     ∙ ap is_nothing_held held
 
--- If a stopped worker isn't idle and has no due call, then it has at least one turn less left after its next command
--- and the answer (`Leaves`). `f` is the first consumer whose next command is a Give, and `held` are the leases.
-turned_by : (made : WorkerMade) (at : ℕ) (a : Result Reply Refusal) (s : WorkerState) (f : Option Known)
+turned_by : (made : WorkerMade) (moment : ℕ) (a : Result Reply Refusal) (s : WorkerState) (f : Option Known)
     (held : List Held) → IsStopped s → find is_due_known s.consumers ≡ None → find is_giving s.consumers ≡ f
     → s.held ≡ held → is_idle s ≡ false
-    → Leaves s (absorbed made at a (record s { waiting = next_pending made at s }) (next_pending made at s))
-turned_by made at a s (Some k) held stopped due giving is busy =
-    finished made at a s k stopped due giving (next_pending made at s) refl
-turned_by made at a s None [] stopped due giving is busy =
+    → Leaves s (absorbed made moment a (record s { waiting = next_pending made moment s }) (next_pending made moment s))
+turned_by made moment a s (Some k) held stopped due giving is busy =
+    finished made moment a s k stopped due giving (next_pending made moment s) refl
+turned_by made moment a s None [] stopped due giving is busy =
     absurd (apart (is_idle s) (idle_then s stopped due giving is) busy)
-turned_by made at a s None (h ∷ hs) stopped due giving is busy =
-    freed made at a s h hs stopped is giving (next_pending made at s) refl
+turned_by made moment a s None (h ∷ hs) stopped due giving is busy =
+    freed made moment a s h hs stopped is giving (next_pending made moment s) refl
 
--- If a stopped worker isn't idle and has no due call, then after its next command and the answer it is still stopped,
--- and has at least one turn less left.
-pub turn_stopped : (made : WorkerMade) (at : ℕ) (a : Result Reply Refusal) (past : WorkerPast)
+-- A turn keeps a worker stopped, and leaves it at least one turn less.
+pub turn_stopped : (made : WorkerMade) (moment : ℕ) (a : Result Reply Refusal) (past : WorkerPast)
     → IsStopped (worker_after made past) → find is_due_known (worker_after made past).consumers ≡ None
     → is_idle (worker_after made past) ≡ false
-    → IsStopped (worker_after made (Got_answer at a ∷ (Gave_command at ∷ past)))
-    × (turns_left (worker_after made (Got_answer at a ∷ (Gave_command at ∷ past))) + 1
+    → IsStopped (worker_after made (Got_answer moment a ∷ (Gave_command moment ∷ past)))
+    × (turns_left (worker_after made (Got_answer moment a ∷ (Gave_command moment ∷ past))) + 1
     ≤ turns_left (worker_after made past))
-turn_stopped made at a past stopped due busy =
+turn_stopped made moment a past stopped due busy =
     let s = worker_after made past in
-    let l = turned_by made at a s (find is_giving s.consumers) s.held stopped due refl refl busy in
+    let l = turned_by made moment a s (find is_giving s.consumers) s.held stopped due refl refl busy in
     (l.stopped, l.fewer)
 
--- If a stopped worker isn't idle and has no due call, it has at least one turn left.
 pub some_left : (made : WorkerMade) (past : WorkerPast) → IsStopped (worker_after made past)
     → find is_due_known (worker_after made past).consumers ≡ None → is_idle (worker_after made past) ≡ false
     → 1 ≤ turns_left (worker_after made past)
 some_left made past stopped due busy =
     omega (arith, (turn_stopped made 0 (Err refusal.ShardGone) past stopped due busy).1)
 
--- The number of consumers whose next command is a Give is at most the number of all consumers.
 pub filter_fewer : (ks : List Known) → length (filter is_giving ks) ≤ length ks
 filter_fewer ks = filter_less is_giving ks

@@ -1,5 +1,4 @@
--- A member is a worker on a thread of its own, with its pass, which is its access to the hall. These definitions say
--- what holds before the run of a member and after it.
+-- A member is a worker on a thread of its own with its pass: what holds before and after its run.
 use Rattle.std.specs.Prelude.{◌≡◌, ℕ, ◌*◌, ◌≤◌, true, List, [], length, OnOk, OnErr, IfErr}
 use Rattle.kcl_defs.specs.declared.consumer.Call.{Call}
 use Rattle.kcl_worker.specs.Standing.{StandsFor, is_idle_in}
@@ -10,29 +9,21 @@ use Rattle.kcl_live.specs.Records.{AreOnLeasesAt, AreServedLater}
 use Rattle.kcl_live.specs.Runs.{AreServedSoFar, HasRun, WasCut}
 
 module _ {M P F G : Type 0} (stands : P → List Call → Type 0) where
-  -- The member `m` is ready to run: its pass belongs to the hall `hall` and has no turns of its own, and nothing has
-  -- happened to its worker yet.
-  abbrev pub IsReady : HallValue → Member M P F G → Type 0
+  -- Nothing has happened to the worker yet, and its pass has no turns of its own.
+  abbrev pub IsReady : (hall : HallValue) (m : Member M P F G) → Type 0
   IsReady hall m = (m.pass.hall ≡ hall.id) × (m.pass.own ≡ []) × StandsFor stands m.worker []
 
-  -- The member `before` became `after` by a run of `turns` turns, and then the turns of the stopped worker. The pass
-  -- keeps its hall, its number and its joined passes, the worker keeps its settings, and the pass has seen the turns
-  -- from before and perhaps newer ones. The own turns of the pass are commands on leases. The k-th of them is at k
-  -- times `tick` milliseconds, and there are at most 3 * `turns` of them. If the run ended without an error, these
-  -- turns are the answered commands of the worker (`HasRun`), there are at least `turns` of them, and the worker is
-  -- idle. Also, the processors were then called for the given reads of their tenures (`AreServedLater`). After an
-  -- error, the run was cut short (`WasCut`). The processors were then called for the reads that are given after all
-  -- turns of the pass, or after all turns but the last (`AreServedSoFar`).
-  pub record HasEnded (turns tick : ℕ) (before after : Member M P F G) : Type 0 where
-    pub kept : (after.pass.hall ≡ before.pass.hall) × (after.pass.by ≡ before.pass.by)
-        × (after.pass.joined ≡ before.pass.joined)
-    pub made : after.worker.made ≡ before.worker.made
-    pub seen : Continues after.pass.seen before.pass.seen
-    pub moments : AreOnLeasesAt tick after.pass.own
-    pub most : length after.pass.own ≤ 3 * turns
-    pub ok : OnOk after.outcome (HasRun stands after.worker after.pass)
-    pub least : OnOk after.outcome (turns ≤ length after.pass.own)
-    pub idle : OnOk after.outcome (is_idle_in after.worker ≡ true)
-    pub err : IfErr after.outcome (λ e. WasCut stands after.worker after.pass e)
-    pub served : OnOk after.outcome (AreServedLater stands after.pass.by after.pass.seen after.pass.own after.worker)
-    pub served_so_far : OnErr after.outcome (AreServedSoFar stands after.worker after.pass)
+  -- The worker made from `turns` to 3 * `turns` turns, and is idle and served, or an error cut it short.
+  pub record HasEnded (turns tick : ℕ) (old new : Member M P F G) : Type 0 where
+    pub kept : (new.pass.hall ≡ old.pass.hall) × (new.pass.by ≡ old.pass.by)
+        × (new.pass.joined ≡ old.pass.joined)
+    pub made : new.worker.made ≡ old.worker.made
+    pub seen : Continues new.pass.seen old.pass.seen
+    pub moments : AreOnLeasesAt tick new.pass.own
+    pub most : length new.pass.own ≤ 3 * turns
+    pub ok : OnOk new.outcome (HasRun stands new.worker new.pass)
+    pub least : OnOk new.outcome (turns ≤ length new.pass.own)
+    pub idle : OnOk new.outcome (is_idle_in new.worker ≡ true)
+    pub err : IfErr new.outcome (λ e. WasCut stands new.worker new.pass e)
+    pub served : OnOk new.outcome (AreServedLater stands new.pass.by new.pass.seen new.pass.own new.worker)
+    pub served_so_far : OnErr new.outcome (AreServedSoFar stands new.worker new.pass)

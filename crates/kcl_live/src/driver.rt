@@ -39,7 +39,7 @@ fn round<M: Machine, P: Processor + Drop, F: Maker<P>, G: Gate, R: Wait>(
     now: Moment,
 ) -> Result<(), TurnErr>
     requires hall { pass.old.hall ≡ hall.now.id }
-    requires free { worker.old.waiting ≡ None }
+    requires unasked { worker.old.waiting ≡ None }
     requires going { IsGoing P.stands_for worker.old pass.old }
     ensures run { IsSameRun worker.old worker.new pass.old pass.new }
     ensures turn { MakesTurn now worker.new pass.old pass.new result }
@@ -63,7 +63,7 @@ fn last_round<M: Machine, P: Processor + Drop, F: Maker<P>, G: Gate, R: Wait>(
     now: Moment,
 ) -> Result<(), TurnErr>
     requires hall { pass.old.hall ≡ hall.now.id }
-    requires free { worker.old.waiting ≡ None }
+    requires unasked { worker.old.waiting ≡ None }
     requires none_due { due_in worker.old.consumers ≡ None }
     requires busy { is_idle_in worker.old ≡ false }
     requires finishing { (most : ℕ) × IsFinishing P.stands_for worker.old pass.old most }
@@ -94,7 +94,7 @@ fn finish<M: Machine, P: Processor + Drop, F: Maker<P>, G: Gate, R: Wait>(
 ) -> Result<(), TurnErr>
     requires hall { pass.old.hall ≡ hall.now.id }
     requires moments { 3 * turns * tick < 2 ^ 62 }
-    requires free { worker.old.waiting ≡ None }
+    requires unasked { worker.old.waiting ≡ None }
     requires finishing { IsFinishing P.stands_for worker.old pass.old (3 * turns) }
     requires so_far { AreOnLeasesAt tick pass.old.own × (length pass.old.own ≡ turns) }
     ensures run { IsSameRun worker.old worker.new pass.old pass.new }

@@ -28,7 +28,7 @@ fn call_one<P: Processor>(hand: &mut Handover<P>) -> Result<(), TurnErr>
     ensures made { hand.new.consumer.made ≡ hand.old.consumer.made }
     ensures none_due { OnOk result (due_call hand.new.consumer.stage ≡ None) }
     ensures few { OnOk result (turns_left_in hand.new ≤ turns_left_in hand.old) }
-    ensures goes { (at : ℕ) (q : PassValue) → Goes P.stands_for at hand.old hand.new q q }
+    ensures goes { (moment : ℕ) (q : PassValue) → Goes P.stands_for moment hand.old hand.new q q }
     ensures error { IfErr result (λ e. e ≡ TurnErr.Memory) }
     ensures left { OnErr result (IsSome (due_call hand.new.consumer.stage)) }
 {
@@ -130,11 +130,11 @@ pub fn hand_over<M: Machine, P: Processor + Drop, F: Maker<P>, R: Wait>(
     at: Moment,
 ) -> Result<Option<(Left, P)>, TurnErr>
     requires hall { pass.old.hall ≡ hall.now.id }
-    requires free { worker.old.waiting ≡ None }
+    requires unasked { worker.old.waiting ≡ None }
     ensures kept { IsSamePass pass.new pass.old }
     ensures made { worker.new.made ≡ worker.old.made }
     ensures maker { worker.new.maker ≡ worker.old.maker }
-    ensures free { worker.new.waiting ≡ None }
+    ensures unasked { worker.new.waiting ≡ None }
     ensures seen { Continues pass.new.seen pass.old.seen }
     ensures ok { IfOk result (λ o. (past : WorkerPast) → StandsFor P.stands_for worker.old past
         → MatchOption o (HasNothing P.stands_for at key worker.old worker.new pass.old pass.new past)

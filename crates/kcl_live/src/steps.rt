@@ -27,7 +27,7 @@ pub(crate) fn call_all<P: Processor, F: Maker<P>, G: Gate>(
 ) -> Result<(), TurnErr>
     requires { worker.old.waiting ≡ None }
     ensures made { worker.new.made ≡ worker.old.made }
-    ensures free { worker.new.waiting ≡ None }
+    ensures unasked { worker.new.waiting ≡ None }
     ensures called { (past : WorkerPast) → StandsFor P.stands_for worker.old past
         → (asked : List Ask) × StandsFor P.stands_for worker.new (with_calls asked past) }
     ensures none_due { OnOk result (due_in worker.new.consumers ≡ None) }
@@ -67,7 +67,7 @@ pub(crate) fn make_turn<M: Machine, P: Processor + Drop, F: Maker<P>, R: Wait>(
     now: Moment,
 ) -> Result<(), TurnErr>
     requires hall { pass.old.hall ≡ hall.now.id }
-    requires free { worker.old.waiting ≡ None }
+    requires unasked { worker.old.waiting ≡ None }
     requires none_due { due_in worker.old.consumers ≡ None }
     requires busy { is_idle_in worker.old ≡ false }
     ensures run { IsSameRun worker.old worker.new pass.old pass.new }

@@ -1,5 +1,4 @@
--- A form is a reader and a writer of values that agree: what is read from a text is written as this text, and what is
--- written is read again. This file has the forms of numbers, moments, workers and keys.
+-- Forms, which are readers and writers that agree, of numbers, moments, workers and keys.
 use Rattle.std.proofs.Common.{◌≡◌, ℕ, ◌<◌, ◌≤◌, ◌^◌, List, [], ◌∷◌, ◌++◌, Bool, true, false, Option, Some, None, refl}
 use Rattle.std.proofs.Common.{ap, ◌∙◌, arith, decimal, inl, inr, subst}
 use Rattle.std.proofs.lemmas.Grind.{common_steps}
@@ -17,8 +16,7 @@ use Rattle.kcl_script_fields.specs.Fields.{greatest32, worker_of, worker_text, k
 use Rattle.kcl_script_fields.specs.Commands.{IsKey}
 use Rattle.kcl_script_fields.proofs.Parts.{lacks-append, parted_at, parted_spells, kind_lacks, bind_some, map_some}
 
--- `read` and `write` agree for the values that are `Valid`. A value that `read` reads from a text is valid, and `write`
--- writes it as this text. From the text that `write` writes for a valid value, `read` reads this value.
+-- Reader and writer agree on valid values: each valid value has one text, and no other text is read.
 pub record IsForm {A : Type 0} (Valid : A → Type 0) (read : List ℕ → Option A) (write : A → List ℕ) : Type 0 where
   pub spells : (text : List ℕ) (x : A) → read text ≡ Some x → Valid x × (text ≡ write x)
   pub again : (x : A) → Valid x → read (write x) ≡ Some x
@@ -29,14 +27,13 @@ pub record IsForm {A : Type 0} (Valid : A → Type 0) (read : List ℕ → Optio
 abbrev pub Is64 : ℕ → Type 0
 Is64 n = n < 2 ^ 64
 
--- A number of 64 bits is read as it is written.
 pub number_form : IsForm Is64 number decimal
 number_form = record {
   spells = λ text n h. let d = decimal_of_number text n h in (d.1, d.0);
   again = number_of_decimal;
 }
 
--- The number `n` is from 1 to `most`.
+-- The number is from 1 to `most`.
 abbrev pub IsCount : ℕ → ℕ → Type 0
 IsCount most n = (1 ≤ n) × (n ≤ most)
 
@@ -58,7 +55,6 @@ count_of_text most (Some n) text m e h =
     let d = decimal_of_number text n e in
     (subst (λ (z : ℕ). IsCount most z) t.0 t.1, d.0 ∙ ap decimal t.0)
 
--- A number from 1 to `most` is read as it is written.
 pub count_form : (most : ℕ) → most < 2 ^ 64 → IsForm (IsCount most) (count_of most) decimal
 count_form most small = record {
   spells = λ text m h. count_of_text most (number_of 64 text) text m refl h;
@@ -66,25 +62,23 @@ count_form most small = record {
       ∙ count_again most m v;
 }
 
--- The decimal text of a number of 64 bits doesn't contain the byte `sep`, which isn't a digit.
 pub decimal_lacks : (sep n : ℕ) → is_ascii_digit sep ≡ false → n < 2 ^ 64 → Lacks sep (decimal n)
 decimal_lacks sep n other small = kind_lacks is_ascii_digit sep (decimal n) other (digits_decimal own n small)
 
 -- ---- Moments
 
 abbrev pub IsMoment : ℕ → Type 0
-IsMoment at = at < 2 ^ 62
+IsMoment moment = moment < 2 ^ 62
 
--- A moment is read as it is written.
 pub moment_form : IsForm IsMoment moment_of decimal
 moment_form = record {
-  spells = λ text at h. let d = moment_spells text at h in (d.1, d.0);
+  spells = λ text moment h. let d = moment_spells text moment h in (d.1, d.0);
   again = moment_again;
 }
 
 -- ---- Workers
 
--- The number can be that of a worker: it is at least 1, and fits into 32 bits.
+-- The number can be a worker's: at least 1, and 32 bits.
 abbrev pub IsWorker : ℕ → Type 0
 IsWorker n = IsCount greatest32 n
 
@@ -99,14 +93,12 @@ worker_spells : (text : List ℕ) (n : ℕ) → worker_of text ≡ Some n → Is
 worker_spells [] n h = absurd (cc)
 worker_spells (b ∷ digits) n h = worker_is (b == 119) b digits n refl h
 
--- A worker is read as it is written.
 pub worker_form : IsForm IsWorker worker_of worker_text
 worker_form = record { spells = worker_spells; again = λ n v. (count_form greatest32 (omega arith)).again n v }
 
 -- ---- Two values, one after the other
 
--- If two kinds of values are each read as they are written, so are pairs: a value of the first kind, the byte `sep`,
--- and a value of the second kind. No text of the first kind may contain this byte.
+-- A round trip of pairs with the byte `sep` between them, which no text of the first kind has.
 pub two_form : {A B : Type 0} {V : A → Type 0} {f : List ℕ → Option A} {s : A → List ℕ} {W : B → Type 0} {g : List ℕ
     → Option B} {u : B → List ℕ}
     → (sep : ℕ) → (sep == sep) ≡ true → ((x : A) → V x → Lacks sep (s x)) → IsForm V f s → IsForm W g u
@@ -132,7 +124,6 @@ two_form {A} {B} {V} {f} {s} {W} {g} {u} sep same lacks first second = record {
 
 -- ---- Keys
 
--- A key is read as it is written.
 pub key_form : IsForm IsKey key_of key_text
 key_form =
     let form = two_form 47 refl (λ n v. decimal_lacks 47 n refl v) number_form number_form in
@@ -144,7 +135,6 @@ key_form =
       again = λ k v. ap (option_map key_from) (form.again (k.stream, k.shard) v);
     }
 
--- The text of a key contains no space.
 pub key_lacks : (k : ShardRef) → IsKey k → Lacks 32 (key_text k)
 key_lacks k v = lacks-append 32 (decimal k.stream) (47 ∷ decimal k.shard) (decimal_lacks 32 k.stream refl v.0) (
   refl,

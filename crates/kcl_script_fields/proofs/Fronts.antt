@@ -1,8 +1,7 @@
--- A text is added part by part, perhaps not to its end (`AddsFront`).
+-- A text is added part by part, perhaps not to its end.
 use Rattle.std.proofs.Common.{◌≡◌, ℕ, List, ◌++◌, sym, ◌∙◌, ap, append_assoc}
 use Rattle.kcl_script_fields.specs.Fields.{AddsFront}
 
--- If the first bytes of `text` were added, the first bytes of `text` and `more` together were added.
 pub adds_first : (old now text more : List ℕ) → AddsFront old now text → AddsFront old now (text ++ more)
 adds_first old now text more a =
     record {
@@ -12,8 +11,6 @@ adds_first old now text more a =
       added = a.added;
     }
 
--- If all of `text` was added, and then the first bytes of `more`, then the first bytes of `text` and `more` together
--- were added.
 pub adds_later : (old mid now text more : List ℕ) → mid ≡ old ++ text → AddsFront mid now more
     → AddsFront old now (text ++ more)
 adds_later old mid now text more e a = record {

@@ -1,4 +1,4 @@
--- The two parts of a text (`parted`): what comes before the first byte `sep`, and what comes after it.
+-- What comes before and after the first byte `sep` of a text.
 use Rattle.std.proofs.Common.{◌≡◌, ℕ, zero, suc, ◌+◌, ◌<◌, List, length, [], ◌∷◌, ◌++◌, take, drop, Bool, true, false}
 use Rattle.std.proofs.Common.{Option, Some, None, refl, ap, ◌∙◌, inl, inr, subst, arith}
 use Rattle.std.proofs.lemmas.Bool.{cases_Bool, eqb-true, and_parts}
@@ -7,50 +7,42 @@ use Rattle.std.specs.List.{list_all}
 use Rattle.memchr.specs.Find.{NoneBefore, Passes, is_byte}
 use Rattle.kcl_script_fields.specs.Fields.{◌>>=◌, parted, Lacks}
 
--- If neither of two texts contains the byte `sep`, both together don't.
 pub lacks-append : (sep : ℕ) (a b : List ℕ) → Lacks sep a → Lacks sep b → Lacks sep (a ++ b)
 lacks-append sep [] b n m = m
 lacks-append sep (x ∷ a) b n m = (n.0, lacks-append sep a b n.1 m)
 
--- If `a` doesn't contain the byte `sep`, the parts of `a`, this byte and `b` are `a` and `b`.
 pub parted_at : (sep : ℕ) (a b : List ℕ) → Lacks sep a → (sep == sep) ≡ true → parted sep (a ++ sep ∷ b) ≡ Some (a, b)
 parted_at sep [] b n e = rw e refl
 parted_at sep (x ∷ a) b n e = rw (n.0, parted_at sep a b n.1 e) refl
 
--- A text that doesn't contain the byte `sep` has no parts.
 pub parted_none : (sep : ℕ) (text : List ℕ) → Lacks sep text → parted sep text ≡ None
 parted_none sep [] n = refl
 parted_none sep (b ∷ bs) n = rw (n.0, parted_none sep bs n.1) refl
 
--- A byte that isn't equal to `sep` isn't equal to it by the test either.
 other_byte : (sep b : ℕ) → ((b == sep) ≡ true → ⊥) → (b == sep) ≡ false
 other_byte sep b differs = elim (cases_Bool (b == sep)) [
   | inl same ↦ absurd (differs same)
   | inr other ↦ other
 ]
 
--- If the index `at` is the first at which the text has the byte `sep`, the parts of the text are what comes before and
--- after this index.
-found_at : (sep : ℕ) (text : List ℕ) (at : ℕ) → at < length text → ((k : ℕ) → k < at → Passes (is_byte sep) text k → ⊥)
-    → Passes (is_byte sep) text at → parted sep text ≡ Some (take at text, drop (suc at) text)
-found_at sep [] at within before here = absurd (omega arith)
-found_at sep (b ∷ bs) zero within before here = rw here refl
-found_at sep (b ∷ bs) (suc at) within before here =
+found_at : (sep : ℕ) (text : List ℕ) (index : ℕ) → index < length text
+    → ((k : ℕ) → k < index → Passes (is_byte sep) text k → ⊥)
+    → Passes (is_byte sep) text index → parted sep text ≡ Some (take index text, drop (suc index) text)
+found_at sep [] index within is_before here = absurd (omega arith)
+found_at sep (b ∷ bs) zero within is_before here = rw here refl
+found_at sep (b ∷ bs) (suc index) within is_before here =
     rw (
-      other_byte sep b (before 0 (omega arith)),
-      found_at sep bs at (omega arith) (λ k lt. before (suc k) (omega arith)) here,
+      other_byte sep b (is_before 0 (omega arith)),
+      found_at sep bs index (omega arith) (λ k lt. is_before (suc k) (omega arith)) here,
     ) refl
 
--- If a search found the first byte `sep` of the text at the index `at`, the parts of the text are what comes before and
--- after this index.
-pub parted_found : (sep : ℕ) (text : List ℕ) (at : ℕ) → NoneBefore (Passes (is_byte sep) text) 0 (length text) at
-    × Passes (is_byte sep) text at → parted sep text ≡ Some (take at text, drop (at + 1) text)
-parted_found sep text at found =
-    let next : suc at ≡ at + 1 = omega arith in
-    found_at sep text at found.0.high (λ k lt. found.0.before k (omega arith) lt) found.1
-    ∙ ap (λ n. Some (take at text, drop n text)) next
+pub parted_found : (sep : ℕ) (text : List ℕ) (index : ℕ) → NoneBefore (Passes (is_byte sep) text) 0 (length text) index
+    × Passes (is_byte sep) text index → parted sep text ≡ Some (take index text, drop (index + 1) text)
+parted_found sep text index found =
+    let next : suc index ≡ index + 1 = omega arith in
+    found_at sep text index found.0.high (λ k lt. found.0.before k (omega arith) lt) found.1
+    ∙ ap (λ n. Some (take index text, drop n text)) next
 
--- If a search found no byte `sep` in the text, the text has no parts.
 pub parted_nowhere : (sep : ℕ) (text : List ℕ) → ((k : ℕ) → k < length text → Passes (is_byte sep) text k → ⊥)
     → parted sep text ≡ None
 parted_nowhere sep [] nowhere = refl
@@ -58,7 +50,7 @@ parted_nowhere sep (b ∷ bs) nowhere =
     rw (other_byte sep b (nowhere 0 (omega arith)), parted_nowhere sep bs (λ k lt. nowhere (suc k) (omega arith)))
     refl
 
--- The text is the part `p.0`, the byte `sep` and the part `p.1`, and the first part doesn't contain this byte.
+-- The text is `p.0` without `sep`, then `sep`, then `p.1`.
 abbrev pub IsParted : ℕ → List ℕ → List ℕ × List ℕ → Type 0
 IsParted sep text p = (text ≡ p.0 ++ sep ∷ p.1) × Lacks sep p.0
 
@@ -81,8 +73,6 @@ parted_cases sep true b bs p c rest e =
     subst (λ (z : List ℕ × List ℕ). IsParted sep (b ∷ bs) z) same (ap (λ z. z ∷ bs) byte, tt)
 parted_cases sep false b bs p c rest e = parted_rest sep b bs (parted sep bs) p c rest e
 
--- If a text has the parts `p`, it consists of them with the byte `sep` between them, and the first part doesn't contain
--- this byte.
 pub parted_spells : (sep : ℕ) (text : List ℕ) (p : List ℕ × List ℕ) → parted sep text ≡ Some p → IsParted sep text p
 parted_spells sep [] p e = absurd (cc)
 parted_spells sep (b ∷ bs) p e = parted_cases sep (b == sep) b bs p refl (parted_spells sep bs) e
@@ -95,7 +85,6 @@ kind_not p sep b lacks has = elim (cases_Bool (b == sep)) [
   | inr other ↦ other
 ]
 
--- If each byte of a text passes the test `p`, and the byte `sep` doesn't, then the text doesn't contain `sep`.
 pub kind_lacks : (p : ℕ → Bool) (sep : ℕ) (text : List ℕ) → p sep ≡ false → list_all p text ≡ true → Lacks sep text
 kind_lacks p sep [] lacks all = tt
 kind_lacks p sep (b ∷ bs) lacks all = let h = and_parts (p b) (list_all p bs) all in
@@ -103,13 +92,11 @@ kind_lacks p sep (b ∷ bs) lacks all = let h = and_parts (p b) (list_all p bs) 
 
 -- ---- Reading on after an Option
 
--- If reading on after an Option gives the value `y`, the Option has a value, and `f` gives `y` for it.
 pub bind_some : {A B : Type 0} (o : Option A) (f : A → Option B) (y : B) → (o >>= f) ≡ Some y → (x : A) × (o ≡ Some x)
     × (f x ≡ Some y)
 bind_some None f y h = absurd (cc)
 bind_some (Some x) f y h = (x, refl, h)
 
--- If changing the value of an Option by `f` gives the value `y`, the Option has a value, and `f` gives `y` for it.
 pub map_some : {A B : Type 0} (f : A → B) (o : Option A) (y : B) → option_map f o ≡ Some y → (x : A) × (o ≡ Some x)
     × (f x ≡ y)
 map_some f None y h = absurd (cc)

@@ -1,5 +1,4 @@
--- The command of a raw line of a schedule is read as it is written: a text that is read as a command is the text of
--- this command, and the text of a command is read as this command.
+-- A raw line's command makes a round trip.
 use Rattle.std.proofs.Common.{◌≡◌, ℕ, ◌<◌, ◌^◌, List, ◌∷◌, ◌++◌, Bool, true, false, Option, Some, refl, sym, ap, ◌∙◌}
 use Rattle.std.proofs.Common.{arith, codes, decimal, inl, inr, subst}
 use Rattle.std.proofs.lemmas.Bool.{cases_Bool}
@@ -31,18 +30,17 @@ use Rattle.kcl_script_fields.proofs.Forms.{two_form, key_form, key_lacks, decima
 
 -- ---- The target of a checkpoint
 
-target_is : (c : Bool) (text : List ℕ) (to : Target) → bytes_eq text (codes "end") ≡ c
-    → (if c then Some target.End else option_map (λ q. target.At q) (number text)) ≡ Some to
-    → IsTarget to × (text ≡ target_text to)
-target_is true text to c h =
-    let same : target.End ≡ to = cc in
+target_is : (c : Bool) (text : List ℕ) (goal : Target) → bytes_eq text (codes "end") ≡ c
+    → (if c then Some target.End else option_map (λ q. target.At q) (number text)) ≡ Some goal
+    → IsTarget goal × (text ≡ target_text goal)
+target_is true text goal c h =
+    let same : target.End ≡ goal = cc in
     subst (λ (z : Target). IsTarget z × (text ≡ target_text z)) same (tt, (bytes_eq-Decides text (codes "end")).0 c)
-target_is false text to c h =
-    let m = map_some (λ q. target.At q) (number text) to h in
+target_is false text goal c h =
+    let m = map_some (λ q. target.At q) (number text) goal h in
     let d = number_form.spells text m.0 m.1 in
     subst (λ (z : Target). IsTarget z × (text ≡ target_text z)) m.2 d
 
--- The text of a number isn't the word `end`.
 number_not_end : (q : ℕ) → q < 2 ^ 64 → bytes_eq (decimal q) (codes "end") ≡ false
 number_not_end q small = elim (cases_Bool (bytes_eq (decimal q) (codes "end"))) [
   | inl same ↦ let bad : list_all is_ascii_digit (codes "end") ≡ true =
@@ -51,20 +49,18 @@ number_not_end q small = elim (cases_Bool (bytes_eq (decimal q) (codes "end"))) 
   | inr other ↦ other
 ]
 
-target_again : (to : Target) → IsTarget to → target_of (target_text to) ≡ Some to
+target_again : (goal : Target) → IsTarget goal → target_of (target_text goal) ≡ Some goal
 target_again target.End v = refl
 target_again (target.At q) v = rw (number_not_end q v) (ap (option_map (λ n. target.At n)) (number_form.again q v))
 
--- The target of a checkpoint is read as it is written.
 pub target_form : IsForm IsTarget target_of target_text
 target_form = record {
-  spells = λ text to h. target_is (bytes_eq text (codes "end")) text to refl h;
+  spells = λ text goal h. target_is (bytes_eq text (codes "end")) text goal refl h;
   again = target_again;
 }
 
 -- ---- A key and its origin
 
--- A key with its origin is read as it is written.
 pub row_form : IsForm (λ (a : ShardRef × Origin). IsKey a.0 × IsOrigin a.1) row_of (λ (a : ShardRef × Origin).
     key_text a.0 ++ origin_text a.1)
 row_form = with_origin_form key_lacks key_form
@@ -100,36 +96,31 @@ numbers_form = two_form 32 refl number_lacks number_form number_form
 
 -- ---- The first word of a command, and what follows it
 
--- The command `c` can be that of a raw line (`IsRaw`), and its text is the word `word`, a space and then `text`.
+-- A command of a raw line, whose text is `word`, a space and `text`.
 abbrev Spells : List ℕ → List ℕ → Command → Type 0
 Spells word text c = IsRaw c × (word ++ 32 ∷ text ≡ command_text c)
 
--- If the values after the word are read as they are written (`IsForm`), then a command that is made from such values
--- has this word and this text (`Spells`).
 spelled : {A : Type 0} {V : A → Type 0} {f : List ℕ → Option A} {s : A → List ℕ} → (w word : List ℕ) → IsForm V f s
-    → (to : A → Command)
-    → ((a : A) → V a → Spells w (s a) (to a)) → (text : List ℕ) (c : Command) → bytes_eq word w ≡ true
-    → option_map to (f text) ≡ Some c → Spells word text c
-spelled {A} {V} {f} {s} w word form to each text c same h =
-    let m = map_some to (f text) c h in
+    → (command_of_value : A → Command)
+    → ((a : A) → V a → Spells w (s a) (command_of_value a)) → (text : List ℕ) (c : Command) → bytes_eq word w ≡ true
+    → option_map command_of_value (f text) ≡ Some c → Spells word text c
+spelled {A} {V} {f} {s} w word form command_of_value each text c same h =
+    let m = map_some command_of_value (f text) c h in
     let d = form.spells text m.0 m.1 in
     let e = each m.0 d.0 in
-    let at_w : Spells w text (to m.0) = (e.0, ap (λ z. w ++ 32 ∷ z) d.1 ∙ e.1) in
-    let at_word : Spells word text (to m.0) =
-    subst (λ (z : List ℕ). Spells z text (to m.0)) (sym ((bytes_eq-Decides word w).0 same)) at_w in
+    let at_w : Spells w text (command_of_value m.0) = (e.0, ap (λ z. w ++ 32 ∷ z) d.1 ∙ e.1) in
+    let at_word : Spells word text (command_of_value m.0) =
+    subst (λ (z : List ℕ). Spells z text (command_of_value m.0)) (sym ((bytes_eq-Decides word w).0 same)) at_w in
     subst (λ (z : Command). Spells word text z) m.2 at_word
 
--- If a choice between two Options gave the value `l`, then `P` holds if it follows in both cases. `c` says which Option
--- was chosen.
 pub choose : {A P : Type 0} (c : Bool) (x y : Option A) (l : A) → (if c then x else y) ≡ Some l
     → (c ≡ true → x ≡ Some l → P) → (y ≡ Some l → P) → P
 choose true x y l h f g = f refl h
 choose false x y l h f g = g h
 
-raw_is : (what : Command) → is_service what ≡ false → IsLawfulCommand what → AreNumbers what → IsRaw what
-raw_is what e l n = record { lease = e; lawful = l; numbers = n }
+raw_is : (asked : Command) → is_service asked ≡ false → IsLawfulCommand asked → AreNumbers asked → IsRaw asked
+raw_is asked e l n = record { lease = e; lawful = l; numbers = n }
 
--- What is read as a command with the first word `word` is the text of this command.
 words_spell : (word text : List ℕ) (c : Command) → words_of word text ≡ Some c → Spells word text c
 words_spell word text c h =
     choose (bytes_eq word (codes "make")) _ _ c h
@@ -155,7 +146,6 @@ words_spell word text c h =
     (spelled (codes "cut") word cut_form _ (λ a v. (raw_is _ refl tt v, refl)) text c)
     (λ h. absurd (cc))))))))))
 
--- What is read as a command of more than one word is the text of this command.
 longer_spells : (text : List ℕ) (c : Command) → longer_of text ≡ Some c → IsRaw c × (text ≡ command_text c)
 longer_spells text c h =
     let p = bind_some (field text) _ c h in
@@ -164,13 +154,10 @@ longer_spells text c h =
 
 -- ---- All commands of raw lines
 
--- The command `r.0` can be that of a raw line, `r.1` says whether its answer is to have each row, and `text` is the
--- text of this command.
+-- A command of a raw line with this text; `r.1` says whether its answer has each row.
 abbrev SpellsRaw : List ℕ → Command × Bool → Type 0
 SpellsRaw text r = IsAsked r.0 r.1 × (text ≡ raw_text r.0 r.1)
 
--- A text that is the word of a survey, with each row in the answer or without, is the text of this command
--- (`SpellsRaw`).
 survey_spells : (word text : List ℕ) (long : Bool) (r : Command × Bool) → word ≡ raw_text command.Survey long
     → bytes_eq text word ≡ true
     → Some (command.Survey, long) ≡ Some r → SpellsRaw text r
@@ -181,7 +168,6 @@ survey_spells word text long r is same h =
       (bytes_eq-Decides text word).0 same ∙ is,
     )
 
--- A text that is read as a command of more than one word is the text of this command.
 more_spells : (text : List ℕ) (r : Command × Bool) → option_map (λ (c : Command). (c, false)) (longer_of text) ≡ Some r
     → SpellsRaw text r
 more_spells text r h =
@@ -189,19 +175,17 @@ more_spells text r h =
     let d = longer_spells text m.0 m.1 in
     subst (λ (z : Command × Bool). SpellsRaw text z) m.2 ((d.0, λ l. absurd (cc l)), d.1)
 
--- A text that is read as a command is the text of this command (`SpellsRaw`).
 pub command_spells : (text : List ℕ) (r : Command × Bool) → command_of text ≡ Some r → SpellsRaw text r
 command_spells text r h =
     choose (bytes_eq text (codes "survey")) _ _ r h (survey_spells (codes "survey") text false r refl)
     (λ h. choose (bytes_eq text (codes "rows")) _ _ r h (survey_spells (codes "rows") text true r refl)
     (more_spells text r))
 
--- The text of a command is read as this command, and as one whose answer isn't to have each row.
-short_again : (what : Command) → IsRaw what → command_of (command_text what) ≡ Some (what, false)
+short_again : (asked : Command) → IsRaw asked → command_of (command_text asked) ≡ Some (asked, false)
 short_again command.Survey v = refl
-short_again (command.MakeLease key from) v =
+short_again (command.MakeLease key origin) v =
     ap (λ o. option_map (λ c. (c, false)) (option_map (λ a. command.MakeLease a.0 a.1) o))
-    (row_form.again (key, from) v.numbers)
+    (row_form.again (key, origin) v.numbers)
 short_again (command.Take key counter owner) v =
     ap (λ o. option_map (λ c. (c, false)) (option_map (λ a. command.Take a.0 a.1.0 a.1.1) o))
     (take_form.again (key, (counter, owner)) (v.numbers.0, (v.numbers.1.0, (v.lawful, omega (arith, v.numbers.1.1)))))
@@ -219,17 +203,15 @@ short_again (command.Read tenure position limit) v =
     (read_form.again (tenure, (position, limit)) (v.numbers.0, (v.numbers.1, v.lawful)))
 short_again (command.Give tenure) v =
     ap (λ o. option_map (λ c. (c, false)) (option_map (λ n. command.Give n) o)) (number_form.again tenure v.numbers)
-short_again (command.Mark tenure counter to) v =
+short_again (command.Mark tenure counter goal) v =
     ap (λ o. option_map (λ c. (c, false)) (option_map (λ a. command.Mark a.0 a.1.0 a.1.1) o))
-    (mark_form.again (tenure, (counter, to)) v.numbers)
+    (mark_form.again (tenure, (counter, goal)) v.numbers)
 short_again (command.CutLease key counter) v =
     ap (λ o. option_map (λ c. (c, false)) (option_map (λ a. command.CutLease a.0 a.1) o))
     (cut_form.again (key, counter) v.numbers)
 short_again _ v = absurd (cc v.lease)
 
--- The text of a command that a raw line can have is read as this command, together with whether its answer is to have
--- each row.
-pub command_again : (what : Command) (long : Bool) → IsAsked what long
-    → command_of (raw_text what long) ≡ Some (what, long)
-command_again what false a = short_again what a.0
-command_again what true a = ap (λ (c : Command). Some (c, true)) (sym (a.1 refl))
+pub command_again : (asked : Command) (long : Bool) → IsAsked asked long
+    → command_of (raw_text asked long) ≡ Some (asked, long)
+command_again asked false a = short_again asked a.0
+command_again asked true a = ap (λ (c : Command). Some (c, true)) (sym (a.1 refl))

@@ -1,5 +1,4 @@
--- Making the due calls one by one, until none is due, leads to the record that `with_calls` defines, in which each due
--- call is made once. A call is due if the consumer's processor has to be called now.
+-- Making due calls one by one until none is due leads to the trace of `with_calls`.
 use Rattle.std.proofs.Common.{◌≡◌, Bool, true, false, List, [], ◌∷◌, Option, Some, None, refl, sym, ap, subst, ◌∙◌}
 use Rattle.std.specs.Prelude.{cond, not, is_some, if◌then◌else◌}
 use Rattle.std.specs.List.{filter, find}
@@ -15,17 +14,13 @@ use Rattle.kcl_worker.proofs.Counting.{not_again}
 use Rattle.kcl_worker.specs.Asks.{IsAsk, IsAskOf}
 use Rattle.kcl_sim.specs.Workers.{Employed, all_called, ask_in, state_of, with_calls}
 
--- A consumer that is over has no due call.
 over_not_due : (p : Stage) → is_some (over_at p) ≡ true → is_some (due_call p) ≡ false
 over_not_due (Over why) h = refl
 over_not_due _ h = absurd cc
 
--- The consumers that aren't over.
 live : List Known → List Known
 live ks = filter (λ k. not (is_over k)) ks
 
--- The case of `live_calls` with the first consumer `k`: the record with all due calls is the same if the consumers that
--- are over are left out. `over` says whether `k` is over, and `due` whether `k` has a due call.
 live_by : (over due : Bool) (kind : Kind) (k : Known) (ks : List Known) (past : JointPast) → is_over k ≡ over
     → is_due_known k ≡ due
     → ((p : JointPast) → with_calls kind (live ks) p ≡ with_calls kind ks p)
@@ -42,7 +37,6 @@ live_by false false kind k ks past o d rest =
     ap (λ b. if b then with_calls kind (live ks) (Of_worker (Made_call (ask_in kind (stage_of_known k))) ∷ past) else
     with_calls kind (live ks) past) d ∙ rest _
 
--- The record with all due calls is the same if the consumers that are over are left out, since they have no due call.
 live_calls : (kind : Kind) (ks : List Known) (past : JointPast)
     → with_calls kind (live ks) past ≡ with_calls kind ks past
 unfolding live
@@ -50,9 +44,6 @@ live_calls kind [] past = refl
 live_calls kind (k ∷ ks) past =
     live_by (is_over k) (is_due_known k) kind k ks past refl refl (live_calls kind ks)
 
--- The case of `called_first` with the first consumer `c`: if the first due call is made on its own, and then
--- `with_calls` makes the others, the record is the same as if `with_calls` makes all. `due` says whether the call of
--- `c` is due.
 called_by : (due : Bool) (kind : Kind) (c : Known) (ks : List Known) (past : JointPast) (k : Known)
     → is_due_known c ≡ due → cond due (Some c) (find is_due_known ks) ≡ Some k
     → (find is_due_known ks ≡ Some k
@@ -78,15 +69,13 @@ called_by false kind c ks past k d is rest =
     ap (λ b. if b then with_calls kind others (Of_worker (Made_call (ask_in kind (stage_of_known c)))
     ∷ Of_worker (Made_call a) ∷ past) else with_calls kind others (Of_worker (Made_call a) ∷ past)) d ∙ rest is
 
--- If the first due call is made on its own, and then `with_calls` makes the others, the record is the same as if
--- `with_calls` makes all.
 called_first : (kind : Kind) (ks : List Known) (past : JointPast) (k : Known) → find is_due_known ks ≡ Some k
     → with_calls kind (happens_to_first is_due_known (Called (ask_in kind (stage_of_known k))) ks)
     (Of_worker (Made_call (ask_in kind (stage_of_known k))) ∷ past) ≡ with_calls kind ks past
 called_first kind [] past k is = absurd cc
 called_first kind (c ∷ ks) past k is = called_by (is_due_known c) kind c ks past k refl is (called_first kind ks past k)
 
--- If the first due call of the worker is made, the record with all due calls stays what it was before this call.
+-- Making the first due call doesn't change what the trace becomes with all due calls.
 pub one_called : (e : Employed) (k : Known) (a : Ask) → due_known (state_of e) ≡ Some k
     → a ≡ ask_in e.kind (stage_of_known k) → all_called (record e { past = Of_worker (Made_call a) ∷ e.past })
     ≡ all_called e
@@ -98,7 +87,6 @@ one_called e k a is asks =
     (state_of e).consumers) (Of_worker (Made_call (ask_in e.kind (stage_of_known k))) ∷ e.past)
     ∙ called_first e.kind (state_of e).consumers e.past k is))
 
--- The case of `none_called` with the first consumer `k`, where `due` says whether the call of `k` is due.
 none_by : (due : Bool) (kind : Kind) (k : Known) (ks : List Known) (past : JointPast) → is_due_known k ≡ due
     → cond due (Some k) (find is_due_known ks) ≡ None
     → (find is_due_known ks ≡ None → with_calls kind ks past ≡ past)
@@ -107,28 +95,22 @@ none_by : (due : Bool) (kind : Kind) (k : Known) (ks : List Known) (past : Joint
 none_by true kind k ks past d is rest = absurd cc
 none_by false kind k ks past d is rest = rest is
 
--- If no call is due, `with_calls` adds no call to the record.
 none_called : (kind : Kind) (ks : List Known) (past : JointPast) → find is_due_known ks ≡ None
     → with_calls kind ks past ≡ past
 none_called kind [] past is = refl
 none_called kind (k ∷ ks) past is = none_by (is_due_known k) kind k ks past refl is (none_called kind ks past)
 
--- If no call is due, the worker with all due calls made is the worker itself.
 pub all_made : (e : Employed) → due_known (state_of e) ≡ None → all_called e ≡ e
 all_made e is = ap (λ past. record e { past = past }) (none_called e.kind (state_of e).consumers e.past is)
 
 -- ---- What a processor asks for in a call
 
--- Processors of the kinds `maker` and `kind` ask for the same checkpoint after each batch. Then in the call that is due
--- in the stage `p`, a processor of the kind `maker` asks for what a processor of the kind `kind` asks for.
 pub ask_is : (maker kind : Kind) → ((batch : List Stored) → asked_of maker batch ≡ asked_of kind batch)
     → (p : Stage) (a : Ask) → IsAsk (λ batch b. b ≡ asked_of maker batch) p a → a ≡ ask_in kind p
 ask_is maker kind same (Holding reach waiting) a h = h ∙ same _
 ask_is maker kind same _ a h = h
 
--- Processors of the kinds `maker` and `kind` ask for the same checkpoint after each batch. A processor of the kind
--- `maker` asked for `a` in the due call of the consumer `o`. Then `o` is a consumer `k`, and `a` is what a processor of
--- the kind `kind` asks for.
+-- Kinds that ask alike after each batch ask alike in the due call.
 pub ask_of : (maker kind : Kind) → ((batch : List Stored) → asked_of maker batch ≡ asked_of kind batch)
     → (o : Option Known) (a : Ask) → IsAskOf (λ batch b. b ≡ asked_of maker batch) o a
     → (k : Known) × (o ≡ Some k) × (a ≡ ask_in kind (stage_of_known k))

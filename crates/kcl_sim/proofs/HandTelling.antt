@@ -1,5 +1,4 @@
--- While a hand-off of a worker runs, the actor's turns in the history stay the answered commands of the joint record of
--- the worker and its hand-offs.
+-- While a hand-off runs, the actor's turns stay the answered commands of the worker's joint trace.
 use Rattle.std.proofs.Common.{◌≡◌, ℕ, zero, suc, List, [], ◌∷◌, ◌++◌, length, Option, Some, None, refl, sym, ap, subst}
 use Rattle.std.proofs.Common.{◌∙◌}
 use Rattle.std.specs.Prelude.{IsSome, if◌then◌else◌, map}
@@ -21,134 +20,123 @@ use Rattle.kcl_hand.specs.Runs.{with_hand}
 
 -- ---- A command, and what comes after it
 
--- The run of the hand-off `x`, whose due call was made before: the command `o` becomes a turn and is answered, and then
--- at most `n` commands follow. If `o` is None, nothing is run.
+-- The run of a hand-off whose due call was made: the command `o`, then at most `n` more; None runs nothing.
 abbrev pub rounds : ℕ → ℕ → ℕ → List Turn → HandOff → Option Command → HandRun
-rounds n at by h x o =
+rounds n moment actor h x o =
     or_stop o (record { history = h; hand = x; deals = [] })
-    (λ what. with_first h what at by (run_hand n at by (turn_of at by what ∷ h) (answered_by at by h x what)))
+    (λ command. with_first h command moment actor
+    (run_hand n moment actor (turn_of moment actor command ∷ h) (answered_by moment actor h x command)))
 
--- The run of the hand-off `x`, whose due call was made before, with its next command, if any, and at most `n` commands
--- after it.
+-- The run of a hand-off whose due call was made: its next command, if any, then at most `n` more.
 abbrev pub round : ℕ → ℕ → ℕ → List Turn → HandOff → HandRun
-round n at by h x = rounds n at by h x (hand_command x.held x.made (state_of x))
+round n moment actor h x = rounds n moment actor h x (hand_command x.held x.made (state_of x))
 
 -- ---- The worker's own record
 
--- The events of a hand-off aren't part of the worker's own record.
-hands_apart : (n : ℕ) (since : HandPast) (past : JointPast)
-    → worker_past (map (Of_hand n) since ++ past) ≡ worker_past past
+hands_apart : (n : ℕ) (events : HandPast) (past : JointPast)
+    → worker_past (map (Of_hand n) events ++ past) ≡ worker_past past
 hands_apart n [] past = refl
-hands_apart n (event ∷ since) past = hands_apart n since past
+hands_apart n (event ∷ events) past = hands_apart n events past
 
--- In the worker's own record, a hand-off with the events `since` is only the release that begins it.
-pub worker_past_hand : (key : ShardRef) (since : HandPast) (made : WorkerMade) (past : JointPast)
-    → worker_past (with_hand key since made past) ≡ Released key ∷ worker_past past
-worker_past_hand key since made past = hands_apart (length (hands_after made past)) since _
+-- In the worker's own trace a hand-off is only the release that begins it.
+pub worker_past_hand : (key : ShardRef) (events : HandPast) (made : WorkerMade) (past : JointPast)
+    → worker_past (with_hand key events made past) ≡ Released key ∷ worker_past past
+worker_past_hand key events made past = hands_apart (length (hands_after made past)) events _
 
--- If no command of the worker waits for its answer, none waits after a release.
 pub released_free : (o : Option Release) (w : WorkerState) → w.waiting ≡ None → (without_release o w).waiting ≡ None
 released_free None w h = h
 released_free (Some r) w h = h
 
 -- ---- The record with the hand-off
 
--- Take the joint record `past` with a release of the key `key` added, and with the events `since` of the hand-off that
--- this release begins. The events of this record may happen in their order (`AreOrderly`), and its answered commands
--- are the actor's turns in `h`.
-pub record IsTellingHand (by : ℕ) (h : List Turn) (key : ShardRef) (made : WorkerMade) (past : JointPast)
-    (since : HandPast) : Type 0 where
-  pub orderly : AreOrderly made (with_hand key since made past)
-  pub told : AreToldIn by h made (with_hand key since made past)
+-- The joint trace with this hand-off is orderly, and its answered commands are the actor's turns in `h`.
+pub record IsTellingHand (actor : ℕ) (h : List Turn) (key : ShardRef) (made : WorkerMade) (past : JointPast)
+    (events : HandPast) : Type 0 where
+  pub orderly : AreOrderly made (with_hand key events made past)
+  pub told : AreToldIn actor h made (with_hand key events made past)
 
-module _ (at by : ℕ) (key : ShardRef) (made : WorkerMade) (past : JointPast) (r : Release)
+module _ (moment actor : ℕ) (key : ShardRef) (made : WorkerMade) (past : JointPast) (r : Release)
     (which : released key (worker_in made past) ≡ Some r) where
-  -- If the hand-off's next command `what` becomes a turn of the actor `by` and is answered, the actor's turns are those
-  -- of the joint record with this answer added.
-  answered_tells : (h : List Turn) (since : HandPast) (what : Command)
-      → hand_command r.held r.known.made (state_of (hand_of r since)) ≡ Some what
-      → IsTellingHand by h key made past since
-      → IsTellingHand by (turn_of at by what ∷ h) key made past (Hand_answered (answer h (turn_of at by what)) ∷ since)
-  answered_tells h since what is t =
-      let a = answer h (turn_of at by what) in
-      let own : deals_of by (turn_of at by what ∷ h) ≡ record { what = what; answer = a } ∷ deals_of by h =
-      ap (λ b. if b then record { what = what; answer = a } ∷ deals_of by h else deals_of by h) (is_itself by) in
-      let next : command_in (length (hands_after made past)) (hands_after made (with_hand key since made past))
-      ≡ Some what =
-      ap (command_in (length (hands_after made past))) (hands_with key made past r which since)
-      ∙ command_last (hands_after made past) (hand_of r since) ∙ is in
+  answered_tells : (h : List Turn) (events : HandPast) (command : Command)
+      → hand_command r.held r.known.made (state_of (hand_of r events)) ≡ Some command
+      → IsTellingHand actor h key made past events
+      → IsTellingHand actor (turn_of moment actor command ∷ h) key made past
+      (Hand_answered (answer h (turn_of moment actor command)) ∷ events)
+  answered_tells h events command is t =
+      let a = answer h (turn_of moment actor command) in
+      let own : deals_of actor (turn_of moment actor command ∷ h) ≡ record { what = command; answer = a }
+      ∷ deals_of actor h =
+      ap (λ b. if b then record { what = command; answer = a } ∷ deals_of actor h else deals_of actor h)
+      (is_itself actor) in
+      let next : command_in (length (hands_after made past)) (hands_after made (with_hand key events made past))
+      ≡ Some command =
+      ap (command_in (length (hands_after made past))) (hands_with key made past r which events)
+      ∙ command_last (hands_after made past) (hand_of r events) ∙ is in
       record {
         orderly = (subst IsSome (sym next) refl, t.orderly);
-        told = own ∙ ap (λ deals. record { what = what; answer = a } ∷ deals) t.told
-            ∙ sym (deals_with_hand key made past r which since what a is);
+        told = own ∙ ap (λ deals. record { what = command; answer = a } ∷ deals) t.told
+            ∙ sym (deals_with_hand key made past r which events command a is);
       }
 
-  -- If the due call of the hand-off, if any, is made, the actor's turns are those of the joint record with this call
-  -- added. A call isn't a turn.
-  called_tells : (h : List Turn) (since : HandPast) (o : Option Due) → IsTellingHand by h key made past since
-      → IsTellingHand by h key made past (called_if o (hand_of r since)).since
-  called_tells h since None t = t
-  called_tells h since (Some due) t = record { orderly = (tt, t.orderly); told = t.told }
+  called_tells : (h : List Turn) (events : HandPast) (o : Option Due) → IsTellingHand actor h key made past events
+      → IsTellingHand actor h key made past (called_if o (hand_of r events)).since
+  called_tells h events None t = t
+  called_tells h events (Some due) t = record { orderly = (tt, t.orderly); told = t.told }
 
-  -- If a call is added to a hand-off that the release begins, this is still the hand-off that the release begins, with
-  -- the call among its events.
-  called_hand : (since : HandPast) (o : Option Due)
-      → called_if o (hand_of r since) ≡ hand_of r (called_if o (hand_of r since)).since
-  called_hand since None = refl
-  called_hand since (Some due) = refl
+  called_hand : (events : HandPast) (o : Option Due)
+      → called_if o (hand_of r events) ≡ hand_of r (called_if o (hand_of r events)).since
+  called_hand events None = refl
+  called_hand events (Some due) = refl
 
-  -- After the run of the hand-off in the argument, the actor's turns are those of the joint record with the hand-off's
-  -- events, and these events may happen in their order (`IsTellingHand`).
   Tells : HandRun → Type 0
-  Tells run = IsTellingHand by run.history key made past run.hand.since
+  Tells run = IsTellingHand actor run.history key made past run.hand.since
 
-  round_tells : (n : ℕ) (h : List Turn) (since : HandPast) (o : Option Command)
-      → hand_command r.held r.known.made (state_of (hand_of r since)) ≡ o
-      → IsTellingHand by h key made past since
-      → ((k : List Turn) (later : HandPast) → IsTellingHand by k key made past later
-      → Tells (run_hand n at by k (hand_of r later)))
-      → Tells (rounds n at by h (hand_of r since) o)
+  round_tells : (n : ℕ) (h : List Turn) (events : HandPast) (o : Option Command)
+      → hand_command r.held r.known.made (state_of (hand_of r events)) ≡ o
+      → IsTellingHand actor h key made past events
+      → ((k : List Turn) (later : HandPast) → IsTellingHand actor k key made past later
+      → Tells (run_hand n moment actor k (hand_of r later)))
+      → Tells (rounds n moment actor h (hand_of r events) o)
   unfolding Tells
-  round_tells n h since None is t rest = t
-  round_tells n h since (Some what) is t rest =
-      rest (turn_of at by what ∷ h) (Hand_answered (answer h (turn_of at by what)) ∷ since)
-      (answered_tells h since what is t)
+  round_tells n h events None is t rest = t
+  round_tells n h events (Some command) is t rest =
+      rest (turn_of moment actor command ∷ h) (Hand_answered (answer h (turn_of moment actor command)) ∷ events)
+      (answered_tells h events command is t)
 
-  -- A run of at most `n` commands of the hand-off keeps this true: the actor's turns are those of the joint record with
-  -- the hand-off's events.
-  runs_tell : (n : ℕ) (h : List Turn) (since : HandPast) → IsTellingHand by h key made past since
-      → Tells (run_hand n at by h (hand_of r since))
+  runs_tell : (n : ℕ) (h : List Turn) (events : HandPast) → IsTellingHand actor h key made past events
+      → Tells (run_hand n moment actor h (hand_of r events))
   unfolding Tells
-  runs_tell zero h since t = called_tells h since (hand_due r.known.made (state_of (hand_of r since))) t
-  runs_tell (suc n) h since t =
-      let o = hand_due r.known.made (state_of (hand_of r since)) in
-      subst (λ y. Tells (round n at by h y)) (sym (called_hand since o))
-      (round_tells n h (called_if o (hand_of r since)).since _ refl (called_tells h since o t)
+  runs_tell zero h events t = called_tells h events (hand_due r.known.made (state_of (hand_of r events))) t
+  runs_tell (suc n) h events t =
+      let o = hand_due r.known.made (state_of (hand_of r events)) in
+      subst (λ y. Tells (round n moment actor h y)) (sym (called_hand events o))
+      (round_tells n h (called_if o (hand_of r events)).since _ refl (called_tells h events o t)
       (λ k later s. runs_tell n k later s))
 
-  -- If the actor's turns are those of the joint record right after the release, they still are once the hand-off has
-  -- run to its end. Then the joint record has the hand-off's events added.
-  pub run_tells : (h : List Turn) → IsTellingHand by h key made past []
-      → IsTellingHand by (run_hand 3 at by h (hand_of r [])).history key made past
-      (run_hand 3 at by h (hand_of r [])).hand.since
+  -- The actor's turns stay the joint trace's answered commands until the hand-off has run to its end.
+  pub run_tells : (h : List Turn) → IsTellingHand actor h key made past []
+      → IsTellingHand actor (run_hand 3 moment actor h (hand_of r [])).history key made past
+      (run_hand 3 moment actor h (hand_of r [])).hand.since
   unfolding Tells
   run_tells h t = runs_tell 3 h [] t
 
 -- ---- Turns of another actor
 
-not_by : (n at by other : ℕ) (h : List Turn) (x : HandOff) (o : Option Command)
-    → ((what : Command) → deals_of other (turn_of at by what ∷ h) ≡ deals_of other h)
-    → ((k : List Turn) (y : HandOff) → deals_of other (run_hand n at by k y).history ≡ deals_of other k)
-    → deals_of other (rounds n at by h x o).history ≡ deals_of other h
-not_by n at by other h x None one rest = refl
-not_by n at by other h x (Some what) one rest = rest (turn_of at by what ∷ h) (answered_by at by h x what) ∙ one what
+not_by : (n moment actor other : ℕ) (h : List Turn) (x : HandOff) (o : Option Command)
+    → ((command : Command) → deals_of other (turn_of moment actor command ∷ h) ≡ deals_of other h)
+    → ((k : List Turn) (y : HandOff) → deals_of other (run_hand n moment actor k y).history ≡ deals_of other k)
+    → deals_of other (rounds n moment actor h x o).history ≡ deals_of other h
+not_by n moment actor other h x None one rest = refl
+not_by n moment actor other h x (Some command) one rest =
+    rest (turn_of moment actor command ∷ h) (answered_by moment actor h x command) ∙ one command
 
--- The run of a hand-off adds no command of the actor `other`, if no turn of the actor `by` does.
-pub of_another_run : (n at by other : ℕ)
-    → ((h : List Turn) (what : Command) → deals_of other (turn_of at by what ∷ h) ≡ deals_of other h)
-    → (h : List Turn) (x : HandOff) → deals_of other (run_hand n at by h x).history ≡ deals_of other h
-of_another_run zero at by other one h x = refl
-of_another_run (suc n) at by other one h x =
-    not_by n at by other h (called_up x) (hand_command (called_up x).held (called_up x).made (state_of (called_up x)))
+-- A hand-off's run adds no command of `other` if no turn of `actor` does.
+pub of_another_run : (n moment actor other : ℕ)
+    → ((h : List Turn) (command : Command) → deals_of other (turn_of moment actor command ∷ h) ≡ deals_of other h)
+    → (h : List Turn) (x : HandOff) → deals_of other (run_hand n moment actor h x).history ≡ deals_of other h
+of_another_run zero moment actor other one h x = refl
+of_another_run (suc n) moment actor other one h x =
+    not_by n moment actor other h (called_up x)
+    (hand_command (called_up x).held (called_up x).made (state_of (called_up x)))
     (one h)
-    (λ k y. of_another_run n at by other one k y)
+    (λ k y. of_another_run n moment actor other one k y)

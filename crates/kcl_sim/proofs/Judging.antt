@@ -1,6 +1,4 @@
--- The lines of a schedule are run one after another. What holds after some lines, and what is written for them, is
--- continued by the next line. `judge` reads texts as lines, up to the first text that isn't a line. `wanted` says
--- whether answers are output. If they aren't, a text that is gathered from the turns is output.
+-- A schedule's texts are judged and run one after another; what holds after some lines goes on to the next.
 use Rattle.std.proofs.Common.{◌≡◌, ℕ, ◌+◌, Bool, true, false, List, [], ◌∷◌, ◌++◌, length, Option, Some, None, refl}
 use Rattle.std.proofs.Common.{sym, ap, subst, ◌∙◌, arith, inl, inr}
 use Rattle.std.proofs.lemmas.List.{append_assoc, append-nil}
@@ -16,8 +14,6 @@ use Rattle.kcl_sim.specs.Schedule.{whole, judge_form, judge, preceded_by}
 use Rattle.kcl_sim.specs.Standing.{IsTold, MayHaveBroken, RunsSo, SimValue, Tells}
 use Rattle.kcl_sim.specs.Taking.{Broke, judged_texts, told_texts, Took, texts_output}
 
--- The output of two lists of lines is the output of the first list, followed by that of the second one after the first
--- was run.
 pub outputs-append : (ran : Ran) (ls ks : List Line)
     → outputs ran (ls ++ ks) ≡ outputs ran ls ++ outputs (with_schedule ran ls) ks
 outputs-append ran [] ks = refl
@@ -25,14 +21,11 @@ outputs-append ran (l ∷ ls) ks =
     ap (λ z. output_of ran l ++ z) (outputs-append (with_line ran l) ls ks)
     ∙ sym (append_assoc (output_of ran l) (outputs (with_line ran l) ls) _)
 
--- The run of two lists of lines, one after the other, is the run of the second list after that of the first.
 pub with_schedule-append : (ran : Ran) (ls ks : List Line)
     → with_schedule ran (ls ++ ks) ≡ with_schedule (with_schedule ran ls) ks
 with_schedule-append ran [] ks = refl
 with_schedule-append ran (l ∷ ls) ks = with_schedule-append (with_line ran l) ls ks
 
--- The step of `judge_from` for one more text in front, which is read as `o`. If this text and all of `texts` are lines,
--- the judgement of this text, `texts` and `more` is the judgement of `more` with these lines in front.
 judge_form_more : (count : ℕ) (texts more : List (List ℕ)) (o : Option Line) (end : End)
     → ((judge (count + 1) texts input.whole).ending ≡ whole
     → judge (count + 1) (texts ++ more) end
@@ -45,8 +38,6 @@ judge_form_more count texts more None end later are = absurd (cc)
 judge_form_more count texts more (Some l) end later are =
     ap (λ j. record { lines = l ∷ j.lines; ending = j.ending }) (later are)
 
--- `count` lines come before `texts`. If all of `texts` are lines, the judgement of `texts` and then `more` is the
--- judgement of `more` with the lines of `texts` in front.
 judge_from : (count : ℕ) (texts more : List (List ℕ)) (end : End) → (judge count texts input.whole).ending ≡ whole
     → judge count (texts ++ more) end
     ≡ preceded_by (judge count texts input.whole).lines (judge (count + length texts) more end)
@@ -55,15 +46,12 @@ judge_from count (text ∷ texts) more end are =
     let next : count + length (text ∷ texts) ≡ count + 1 + length texts = omega arith in
     rw next (judge_form_more count texts more (line_of text) end (judge_from (count + 1) texts more end) are)
 
--- If all of `texts` are lines, the judgement of `texts` and then `more` is the judgement of `more`, as texts that come
--- after these lines, with the lines of `texts` in front.
+-- If all of `texts` are lines, the judgement of `texts ++ more` is `more`'s judgement after these lines.
 pub judge_more : (texts more : List (List ℕ)) (end : End) → (judged_texts texts).ending ≡ whole
     → judge 0 (texts ++ more) end ≡ preceded_by (judged_texts texts).lines (judge (length texts) more end)
 judge_more texts more end are = let none : 0 + length texts ≡ length texts = omega arith in
     rw none at (judge_from 0 texts more end are)
 
--- If all of `texts` are lines and `text` is the line `l`, then the judgement of `texts` and `text` together has the
--- lines of `texts` and then `l`. Its ending is `whole`.
 one_more : (texts : List (List ℕ)) (text : List ℕ) (l : Line) → (judged_texts texts).ending ≡ whole
     → line_of text ≡ Some l
     → judged_texts (texts ++ text ∷ []) ≡ record { lines = (judged_texts texts).lines ++ l ∷ []; ending = whole }
@@ -72,8 +60,6 @@ one_more texts text l are is =
     ∙ ap (λ o. preceded_by (judged_texts texts).lines
     (judge_form (length texts) o (judge (length texts + 1) [] input.whole))) is
 
--- `old` is the run of the lines `texts`, and `new` is this run after one more line `l` with the text `text`. Then `new`
--- is the run of `texts` and `text` (`Took`).
 pub took_more : (old new : SimValue) (texts : List (List ℕ)) (text : List ℕ) (l : Line) → Took old texts
     → line_of text ≡ Some l → RunsSo new (with_line (with_schedule fresh (judged_texts texts).lines) l)
     → Took new (texts ++ text ∷ [])
@@ -85,7 +71,6 @@ took_more old new texts text l t is made =
     ∙ ap (λ z. with_schedule fresh z.lines) (sym j) in
     record { are_lines = ap (λ z. z.ending) j; made = subst (λ (r : Ran). RunsSo new r) same made }
 
--- The output of `texts` and one more line is the output of `texts`, followed by the output of the line `l`.
 output_more : (texts : List (List ℕ)) (text : List ℕ) (l : Line) → (judged_texts texts).ending ≡ whole
     → line_of text ≡ Some l → texts_output (texts ++ text ∷ []) ≡ texts_output texts
     ++ output_of (with_schedule fresh (judged_texts texts).lines) l
@@ -96,11 +81,10 @@ output_more texts text l are is =
 
 -- ---- What is written for the lines
 
--- If a turn is added to a history, the `text` of the new history begins with the `text` of the old one.
+-- The text of a history continues the text before its newest turn.
 abbrev pub Grows : (List Turn → List ℕ) → Type 0
 Grows text = (h : List Turn) (turn : Turn) → TextGoesOn (text h) (text (turn ∷ h))
 
--- If any number of turns is added to a history, the `text` of the new history begins with the `text` of the old one.
 text_grows : (text : List Turn → List ℕ) → Grows text → (more h : List Turn) → TextGoesOn (text h) (text (more ++ h))
 text_grows text grows [] h = ([], sym (append-nil (text h)))
 text_grows text grows (turn ∷ more) h =
@@ -108,7 +92,6 @@ text_grows text grows (turn ∷ more) h =
     let then = grows (more ++ h) turn in
     (first.0 ++ then.0, then.1 ∙ ap (λ z. z ++ then.0) first.1 ∙ append_assoc (text h) first.0 then.0)
 
--- The `text` of the history after the line `l` begins with the `text` of the history before this line.
 line_text_grows : (text : List Turn → List ℕ) → Grows text → (ran : Ran) (l : Line)
     → TextGoesOn (text ran.history) (text (with_line ran l).history)
 line_text_grows text grows ran l =
@@ -116,7 +99,6 @@ line_text_grows text grows ran l =
     let t = text_grows text grows g.more ran.history in
     (t.0, ap text g.grows ∙ t.1)
 
--- The `text` of the history of `texts` and one more line is the `text` of the history after the line `l` is run.
 text_more : (text : List Turn → List ℕ) (texts : List (List ℕ)) (line_text : List ℕ) (l : Line)
     → (judged_texts texts).ending ≡ whole
     → line_of line_text ≡ Some l
@@ -126,20 +108,17 @@ text_more text texts line_text l are is =
     ap (λ z. text (with_schedule fresh z.lines).history) (one_more texts line_text l are is)
     ∙ ap (λ (r : Ran). text r.history) (with_schedule-append fresh (judged_texts texts).lines (l ∷ []))
 
--- What is written for `texts` and one more line is what is written for `texts`, followed by some text `added`. `added`
--- is also what was added to the output for the line `l`.
 told_more : (wanted : Bool) (text : List Turn → List ℕ) (texts : List (List ℕ)) (line_text : List ℕ) (l : Line)
-    (before after : List ℕ)
+    (old new : List ℕ)
     → (judged_texts texts).ending ≡ whole → line_of line_text ≡ Some l
-    → IsTold wanted text (with_schedule fresh (judged_texts texts).lines) l before after
+    → IsTold wanted text (with_schedule fresh (judged_texts texts).lines) l old new
     → (added : List ℕ) × (told_texts wanted text (texts ++ line_text ∷ []) ≡ told_texts wanted text texts ++ added)
-    × (after ≡ before ++ added)
-told_more true text texts line_text l before after are is wrote =
+    × (new ≡ old ++ added)
+told_more true text texts line_text l old new are is wrote =
     (output_of (with_schedule fresh (judged_texts texts).lines) l, output_more texts line_text l are is, wrote)
-told_more false text texts line_text l before after are is wrote =
+told_more false text texts line_text l old new are is wrote =
     (wrote.0, text_more text texts line_text l are is ∙ wrote.1, wrote.2)
 
--- What is written for `texts` and one more line begins with what is written for `texts`.
 told_grows : (wanted : Bool) (text : List Turn → List ℕ) → Grows text
     → (texts : List (List ℕ)) (line_text : List ℕ) (l : Line)
     → (judged_texts texts).ending ≡ whole → line_of line_text ≡ Some l
@@ -152,21 +131,18 @@ told_grows false text grows texts line_text l are is =
 
 -- ---- A line is taken
 
--- The run `old` is that of `texts`, and then the line `l` was run and written (`Tells`). So `new` is the run of `texts`
--- and this line (`Took`), and what is written for the line was added to the output.
+-- If a line is run and told after `texts`, the new state has taken `texts` and then `line_text`.
 pub takes : (wanted : Bool) (text : List Turn → List ℕ) (old new : SimValue) (line_text : List ℕ) (l : Line)
-    (before after : List ℕ)
+    (earlier after : List ℕ)
     → line_of line_text ≡ Some l
-    → ((ran : Ran) → RunsSo old ran → Tells wanted text new ran l before after)
+    → ((ran : Ran) → RunsSo old ran → Tells wanted text new ran l earlier after)
     → (texts : List (List ℕ)) → Took old texts
-    → Goes (λ z. Took new z) (told_texts wanted text) texts line_text before after
-takes wanted text old new line_text l before after is goes texts t =
+    → Goes (λ z. Took new z) (told_texts wanted text) texts line_text earlier after
+takes wanted text old new line_text l earlier after is goes texts t =
     let g = goes (with_schedule fresh (judged_texts texts).lines) t.made in
-    let m = told_more wanted text texts line_text l before after t.are_lines is g.wrote in
+    let m = told_more wanted text texts line_text l earlier after t.are_lines is g.wrote in
     record { taken = took_more old new texts line_text l t is g.made; added = m.0; grows = m.1; wrote = m.2 }
 
--- The case of `breaks` in which the run `old` of the lines `texts` is given (`Took`), and `new` has run the line `l` as
--- a whole, not at all, or in part.
 breaks_by : (wanted : Bool) (text : List Turn → List ℕ) → Grows text
     → (old new : SimValue) (line_text : List ℕ) (l : Line) → line_of line_text ≡ Some l
     → (texts : List (List ℕ)) → Took old texts → MayHaveBroken new (with_schedule fresh (judged_texts texts).lines) l
@@ -181,8 +157,7 @@ breaks_by wanted text grows old new line_text l is texts t (inl (inr made)) =
 breaks_by wanted text grows old new line_text l is texts t (inr part) =
     inr (inr (record { are_lines = t.are_lines; line = l; is = is; part = part }))
 
--- Memory ran out at the line `l` after the lines `texts`. Then `new` is the run of `texts` with or without this line
--- (`Took`), or the run broke off in the middle of this line (`Broke`).
+-- Memory ran out at a line after `texts`: it was taken, not taken, or broken off within.
 pub breaks : (wanted : Bool) (text : List Turn → List ℕ) → Grows text
     → (old new : SimValue) (line_text : List ℕ) (l : Line) → line_of line_text ≡ Some l
     → ((ran : Ran) → RunsSo old ran → MayHaveBroken new ran l)

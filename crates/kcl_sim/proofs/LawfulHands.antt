@@ -1,5 +1,4 @@
--- The turns of hand-offs are lawful: their values are in the ranges of the API. The lemmas need that the workers are
--- bounded (`AreBounded`), so that a hand-off's Read asks for no more records than a Read may ask for.
+-- The turns of bounded workers' hand-offs are lawful; bounds keep a Read's limit in range.
 use Rattle.std.proofs.Common.{◌≡◌, ℕ, zero, suc, ◌<◌, ◌^◌, List, [], ◌∷◌, Option, Some, None, refl, subst}
 use Rattle.std.specs.Prelude.{option_map}
 use Rattle.kds_base.specs.declared.lease_key.ShardRef.{ShardRef}
@@ -41,7 +40,6 @@ release_limit known None r is limits = absurd cc
 release_limit known (Some h) r is limits =
     lease_limit h (known_of (id_of_held h) known) r is (λ k found. found_limit _ known k found limits)
 
--- If the worker `e` is bounded, the limit of records of the consumer that it releases is in the range of the API.
 worker_limit : (e : Employed) (key : ShardRef) (r : Release) → released key (worker_state e) ≡ Some r → IsBounded e
     → IsLimit r.known.made.limit
 worker_limit e key r is h =
@@ -50,80 +48,82 @@ worker_limit e key r is h =
 
 -- ---- The commands of a hand-off
 
--- The command that comes next in a hand-off is lawful.
-stand_lawful : (h : Held) (made : Tenancy) (stage : Stage) (s : Stand) (what : Command)
-    → command_at h made stage s ≡ Some what → IsLimit made.limit
-    → IsLawfulCommand what
-stand_lawful h made stage stand.Consumer what is limit = stage_command made stage h.counter what is limit
-stand_lawful h made stage (stand.Mark q) what is limit = so_lawful _ _ is tt
-stand_lawful h made stage (stand.Free counter) what is limit = so_lawful _ _ is tt
-stand_lawful h made stage (stand.Ended left) what is limit = absurd cc
+stand_lawful : (h : Held) (made : Tenancy) (stage : Stage) (s : Stand) (command : Command)
+    → command_at h made stage s ≡ Some command → IsLimit made.limit
+    → IsLawfulCommand command
+stand_lawful h made stage stand.Consumer command is limit = stage_command made stage h.counter command is limit
+stand_lawful h made stage (stand.Mark q) command is limit = so_lawful _ _ is tt
+stand_lawful h made stage (stand.Free counter) command is limit = so_lawful _ _ is tt
+stand_lawful h made stage (stand.Ended left) command is limit = absurd cc
 
 called_limit : (o : Option Due) (x : HandOff) → IsLimit x.made.limit → IsLimit (called_if o x).made.limit
 called_limit None x h = h
 called_limit (Some due) x h = h
 
-rounds_lawful : (n at by : ℕ) (h : List Turn) (x : HandOff) (o : Option Command)
-    → hand_command x.held x.made (state_of x) ≡ o → at < 2 ^ 62
+rounds_lawful : (n moment actor : ℕ) (h : List Turn) (x : HandOff) (o : Option Command)
+    → hand_command x.held x.made (state_of x) ≡ o → moment < 2 ^ 62
     → IsLimit x.made.limit → IsHistory h
-    → ((k : List Turn) (y : HandOff) → IsLimit y.made.limit → IsHistory k → IsHistory (run_hand n at by k y).history)
-    → IsHistory (rounds n at by h x o).history
-rounds_lawful n at by h x None is early limit past rest = past
-rounds_lawful n at by h x (Some what) is early limit past rest =
-    rest (turn_of at by what ∷ h) (answered_by at by h x what) limit
-    ((early, stand_lawful x.held x.made (stage_after x.made (state_of x).past) (state_of x).stand what is limit), past)
+    → ((k : List Turn) (y : HandOff) → IsLimit y.made.limit → IsHistory k
+    → IsHistory (run_hand n moment actor k y).history)
+    → IsHistory (rounds n moment actor h x o).history
+rounds_lawful n moment actor h x None is early limit past rest = past
+rounds_lawful n moment actor h x (Some command) is early limit past rest =
+    rest (turn_of moment actor command ∷ h) (answered_by moment actor h x command) limit (
+      (early, stand_lawful x.held x.made (stage_after x.made (state_of x).past) (state_of x).stand command is limit),
+      past,
+    )
 
--- If at most `n` commands of a hand-off are run after a lawful history, the history after these commands is lawful.
-run_lawful : (n at by : ℕ) (h : List Turn) (x : HandOff) → at < 2 ^ 62 → IsLimit x.made.limit → IsHistory h
-    → IsHistory (run_hand n at by h x).history
-run_lawful zero at by h x early limit past = past
-run_lawful (suc n) at by h x early limit past =
-    rounds_lawful n at by h (called_up x) _ refl early (called_limit (hand_due x.made (state_of x)) x limit) past
-    (λ k y l p. run_lawful n at by k y early l p)
+run_lawful : (n moment actor : ℕ) (h : List Turn) (x : HandOff) → moment < 2 ^ 62 → IsLimit x.made.limit → IsHistory h
+    → IsHistory (run_hand n moment actor h x).history
+run_lawful zero moment actor h x early limit past = past
+run_lawful (suc n) moment actor h x early limit past =
+    rounds_lawful n moment actor h (called_up x) _ refl early (called_limit (hand_due x.made (state_of x)) x limit) past
+    (λ k y l p. run_lawful n moment actor k y early l p)
 
 -- ---- Lines
 
-release_lawful : (ran : Ran) (at by : ℕ) (key : ShardRef) (e : Employed) (o : Option Release)
-    → release_by key (Some e) ≡ o → at < 2 ^ 62 → IsBounded e
+release_lawful : (ran : Ran) (moment actor : ℕ) (key : ShardRef) (e : Employed) (o : Option Release)
+    → release_by key (Some e) ≡ o → moment < 2 ^ 62 → IsBounded e
     → IsHistory ran.history
-    → IsHistory (with_release ran at by key e o).history
-release_lawful ran at by key e None is early h past = past
-release_lawful ran at by key e (Some r) is early h past =
-    run_lawful 3 at by ran.history (hand_of r []) early (worker_limit e key r is h) past
+    → IsHistory (with_release ran moment actor key e o).history
+release_lawful ran moment actor key e None is early h past = past
+release_lawful ran moment actor key e (Some r) is early h past =
+    run_lawful 3 moment actor ran.history (hand_of r []) early (worker_limit e key r is h) past
 
--- If the turns of a run are lawful, they are still lawful after a hand-off line of the actor `by`.
-pub hand_lawful : (ran : Ran) (at by : ℕ) (key : ShardRef) (o : Option Employed) → employed_by by ran.workers ≡ o
-    → at < 2 ^ 62 → AreBounded ran.workers
+pub hand_lawful : (ran : Ran) (moment actor : ℕ) (key : ShardRef) (o : Option Employed)
+    → employed_by actor ran.workers ≡ o
+    → moment < 2 ^ 62 → AreBounded ran.workers
     → IsHistory ran.history
-    → IsHistory (with_handed ran at by key o).history
-hand_lawful ran at by key None is early h past = past
-hand_lawful ran at by key (Some e) is early h past =
-    release_lawful ran at by key e (release_by key (Some e)) refl early (bounded_by by ran.workers e is h) past
+    → IsHistory (with_handed ran moment actor key o).history
+hand_lawful ran moment actor key None is early h past = past
+hand_lawful ran moment actor key (Some e) is early h past =
+    release_lawful ran moment actor key e (release_by key (Some e)) refl early (bounded_by actor ran.workers e is h)
+    past
 
 -- ---- Out of memory in the middle of a hand-off
 
-released_part : (n at by : ℕ) (h k : List Turn) (key : ShardRef) (e : Employed) (o : Option Release)
+released_part : (n moment actor : ℕ) (h k : List Turn) (key : ShardRef) (e : Employed) (o : Option Release)
     → release_by key (Some e) ≡ o
-    → option_map (history_at n h at by) o ≡ Some k
-    → at < 2 ^ 62 → IsBounded e → IsHistory h → IsHistory k
-released_part n at by h k key e None is part early bound past = absurd cc
-released_part n at by h k key e (Some r) is part early bound past =
-    let same : history_at n h at by r ≡ k = cc in
-    subst IsHistory same (run_lawful n at by h (hand_of r []) early (worker_limit e key r is bound) past)
+    → option_map (history_at n h moment actor) o ≡ Some k
+    → moment < 2 ^ 62 → IsBounded e → IsHistory h → IsHistory k
+released_part n moment actor h k key e None is part early bound past = absurd cc
+released_part n moment actor h k key e (Some r) is part early bound past =
+    let same : history_at n h moment actor r ≡ k = cc in
+    subst IsHistory same (run_lawful n moment actor h (hand_of r []) early (worker_limit e key r is bound) past)
 
-employed_part : (n at by : ℕ) (h k : List Turn) (key : ShardRef) (ws : List Employed) (o : Option Employed)
-    → employed_by by ws ≡ o
-    → option_map (history_at n h at by) (release_by key o) ≡ Some k
-    → at < 2 ^ 62 → AreBounded ws → IsHistory h → IsHistory k
-employed_part n at by h k key ws None is part early bound past = absurd cc
-employed_part n at by h k key ws (Some e) is part early bound past =
-    released_part n at by h k key e (release_by key (Some e)) refl part early (bounded_by by ws e is bound) past
+employed_part : (n moment actor : ℕ) (h k : List Turn) (key : ShardRef) (ws : List Employed) (o : Option Employed)
+    → employed_by actor ws ≡ o
+    → option_map (history_at n h moment actor) (release_by key o) ≡ Some k
+    → moment < 2 ^ 62 → AreBounded ws → IsHistory h → IsHistory k
+employed_part n moment actor h k key ws None is part early bound past = absurd cc
+employed_part n moment actor h k key ws (Some e) is part early bound past =
+    released_part n moment actor h k key e (release_by key (Some e)) refl part early (bounded_by actor ws e is bound)
+    past
 
--- If at most the first `n` commands of the hand-off line `l` were run, and this gave the history `k`, then the turns of
--- `k` are lawful.
+-- The turns stay lawful after part of a hand-off line.
 pub part_lawful : (n : ℕ) (ran : Ran) (l : Line) (k : List Turn) → part_of n ran l ≡ Some k → IsLine l
     → AreBounded ran.workers → IsHistory ran.history
     → IsHistory k
-part_lawful n ran (Hand at by key) k part is bound past =
-    employed_part n at by ran.history k key ran.workers (employed_by by ran.workers) refl part is.0 bound past
+part_lawful n ran (Hand moment actor key) k part is bound past =
+    employed_part n moment actor ran.history k key ran.workers (employed_by actor ran.workers) refl part is.0 bound past
 part_lawful n ran _ k part is bound past = absurd cc

@@ -1,6 +1,4 @@
--- The turns of workers are lawful: each command that comes next for a worker has values in the ranges of the API. The
--- lemmas need that the worker's name is at least 1, and that its consumers ask for no more records than a Read may ask
--- for.
+-- Workers' turns are lawful if names are at least 1 and Read limits are in the range of the API.
 use Rattle.std.proofs.Common.{◌≡◌, ℕ, zero, suc, ◌<◌, ◌≤◌, ◌^◌, Bool, true, false, List, [], ◌∷◌, ◌++◌, Option, Some}
 use Rattle.std.proofs.Common.{None, Result, Ok, Err, refl, subst, arith}
 use Rattle.std.specs.Prelude.{cond, not, nat_le, if◌then◌else◌, option_map, slice_get, slice_set}
@@ -36,11 +34,11 @@ use Rattle.kcl_sim.specs.Workers.{Employed, all_called, command_at, employed_by,
 
 -- ---- The consumers of a worker ask for no more records than a Read may ask for
 
--- The consumer asks in a Read for a number of records that is in the range of the API.
+-- The consumer's limit for a Read is in the range of the API.
 unfoldable pub HasLimit : Known → Type 0
 HasLimit k = IsLimit k.made.limit
 
--- `HasLimit` holds for each of these consumers.
+-- All these consumers have a limit in range.
 unfoldable pub AllLimits : List Known → Type 0
 AllLimits ks = AllByRecursion HasLimit ks
 
@@ -140,8 +138,7 @@ released_limits : (o : Option Release) (w : WorkerState) → AllLimits w.consume
 released_limits None w h = h
 released_limits (Some r) w h = all_without (id_of_held r.held) w.consumers h
 
--- If the limit in the settings of a worker is in the range of the API, so is the limit of each of its consumers, after
--- any record.
+-- Each consumer's limit stays in range if the worker's settings have it so.
 pub limits_after : (made : WorkerMade) → IsLimit made.settings.limit → (past : WorkerPast)
     → AllLimits (worker_after made past).consumers
 unfolding AllLimits
@@ -166,80 +163,75 @@ found_by : (b : Bool) (k j : Known) (o : Option Known) → cond b (Some k) o ≡
 found_by true k j o is h rest = let e : k ≡ j = cc in subst HasLimit e h
 found_by false k j o is h rest = rest is
 
--- If all consumers have a limit in range, the consumer that is found has a limit in range.
 pub found_limit : (p : Known → Bool) (ks : List Known) (k : Known) → find p ks ≡ Some k → AllLimits ks → HasLimit k
 unfolding AllLimits
 found_limit p [] k is h = absurd cc
 found_limit p (j ∷ ks) k is h = found_by (p j) j k _ is h.0 (λ more. found_limit p ks k more h.1)
 
--- If two commands are the same, and the first is lawful, the second is.
 pub so_lawful : (a b : Command) → Some a ≡ Some b → IsLawfulCommand a → IsLawfulCommand b
 so_lawful a b is h = let e : a ≡ b = cc in subst IsLawfulCommand e h
 
--- If a consumer's limit is in range, the command that comes next for it is lawful.
-pub stage_command : (made : Tenancy) (p : Stage) (counter : ℕ) (what : Command)
-    → next_command made p counter ≡ Some what → IsLimit made.limit
-    → IsLawfulCommand what
-stage_command made Opening counter what is limit = so_lawful _ _ is tt
-stage_command made (Filling reach waiting) counter what is limit = so_lawful _ _ is limit
-stage_command made (Giving reach waiting asked lost) counter what is limit = so_lawful _ _ is tt
-stage_command made (Marking reach waiting to) counter what is limit = so_lawful _ _ is tt
-stage_command made MarkingEnd counter what is limit = so_lawful _ _ is tt
-stage_command made _ counter what is limit = absurd cc
+pub stage_command : (made : Tenancy) (p : Stage) (counter : ℕ) (command : Command)
+    → next_command made p counter ≡ Some command → IsLimit made.limit
+    → IsLawfulCommand command
+stage_command made Opening counter command is limit = so_lawful _ _ is tt
+stage_command made (Filling reach waiting) counter command is limit = so_lawful _ _ is limit
+stage_command made (Giving reach waiting asked lost) counter command is limit = so_lawful _ _ is tt
+stage_command made (Marking reach waiting target) counter command is limit = so_lawful _ _ is tt
+stage_command made MarkingEnd counter command is limit = so_lawful _ _ is tt
+stage_command made _ counter command is limit = absurd cc
 
--- If the limit of the consumer in the second argument is in range, the command that comes next for this consumer is
--- lawful.
-consumer_lawful : (w : WorkerState) (o : Option Known) (what : Command) → consumer_command w o ≡ Some what
-    → ((k : Known) → o ≡ Some k → HasLimit k) → IsLawfulCommand what
+consumer_lawful : (w : WorkerState) (o : Option Known) (command : Command) → consumer_command w o ≡ Some command
+    → ((k : Known) → o ≡ Some k → HasLimit k) → IsLawfulCommand command
 unfolding HasLimit
-consumer_lawful w None what is limits = absurd cc
-consumer_lawful w (Some k) what is limits =
-    stage_command k.made (stage_of_known k) (counter_of (id_of k) w.held) what is (limits k refl)
+consumer_lawful w None command is limits = absurd cc
+consumer_lawful w (Some k) command is limits =
+    stage_command k.made (stage_of_known k) (counter_of (id_of k) w.held) command is (limits k refl)
 
 sync_lawful : (step : SyncStep) → IsLawfulCommand (sync_command step)
-sync_lawful (Make key from) = tt
+sync_lawful (Make key origin) = tt
 sync_lawful (Cut key counter) = tt
 
--- If the worker's name is at least 1 and all its consumers have a limit in range, the command of each chore is lawful.
-command_lawful : (made : WorkerMade) (w : WorkerState) (chore : Chore) (what : Command)
-    → command_of made w chore ≡ Some what → 1 ≤ made.name → AllLimits w.consumers → IsLawfulCommand what
-command_lawful made w (Syncing step syncs takes) what is name limits = so_lawful _ _ is (sync_lawful step)
-command_lawful made w (Taking step takes) what is name limits = so_lawful _ _ is name
-command_lawful made w (Consuming id) what is name limits =
-    consumer_lawful w (known_of id w.consumers) what is (λ k found. found_limit _ w.consumers k found limits)
-command_lawful made w _ what is name limits = so_lawful _ _ is tt
+command_lawful : (made : WorkerMade) (w : WorkerState) (chore : Chore) (command : Command)
+    → command_of made w chore ≡ Some command → 1 ≤ made.name → AllLimits w.consumers → IsLawfulCommand command
+command_lawful made w (Syncing step syncs takes) command is name limits = so_lawful _ _ is (sync_lawful step)
+command_lawful made w (Taking step takes) command is name limits = so_lawful _ _ is name
+command_lawful made w (Consuming id) command is name limits =
+    consumer_lawful w (known_of id w.consumers) command is (λ k found. found_limit _ w.consumers k found limits)
+command_lawful made w _ command is name limits = so_lawful _ _ is tt
 
-pending_lawful : (made : WorkerMade) (w : WorkerState) (chore : Chore) (o : Option Command) (what : Command)
-    → option_map (λ p. p.what) (pending_of chore o) ≡ Some what → (o ≡ Some what → IsLawfulCommand what)
-    → IsLawfulCommand what
-pending_lawful made w chore None what is rest = absurd cc
-pending_lawful made w chore (Some c) what is rest = rest is
+pending_lawful : (made : WorkerMade) (w : WorkerState) (chore : Chore) (o : Option Command) (command : Command)
+    → option_map (λ p. p.what) (pending_of chore o) ≡ Some command → (o ≡ Some command → IsLawfulCommand command)
+    → IsLawfulCommand command
+pending_lawful made w chore None command is rest = absurd cc
+pending_lawful made w chore (Some c) command is rest = rest is
 
-chore_lawful : (made : WorkerMade) (w : WorkerState) (o : Option Chore) (what : Command)
-    → option_map (λ p. p.what) (pending_chore made w o) ≡ Some what → 1 ≤ made.name → AllLimits w.consumers
-    → IsLawfulCommand what
-chore_lawful made w None what is name limits = absurd cc
-chore_lawful made w (Some chore) what is name limits =
-    pending_lawful made w chore (command_of made w chore) what is (λ c. command_lawful made w chore what c name limits)
+chore_lawful : (made : WorkerMade) (w : WorkerState) (o : Option Chore) (command : Command)
+    → option_map (λ p. p.what) (pending_chore made w o) ≡ Some command → 1 ≤ made.name → AllLimits w.consumers
+    → IsLawfulCommand command
+chore_lawful made w None command is name limits = absurd cc
+chore_lawful made w (Some chore) command is name limits =
+    pending_lawful made w chore (command_of made w chore) command is
+    (λ c. command_lawful made w chore command c name limits)
 
 -- ---- The workers of a run
 
--- The worker was made with a name that is at least 1, and with a limit of records for a Read that is in the range of
--- the API.
+-- The worker's name is at least 1, and its limit for a Read is in the range of the API.
 pub record IsBounded (e : Employed) : Type 0 where
   pub name : 1 ≤ e.made.name
   pub limit : IsLimit e.made.settings.limit
 
--- Each worker is bounded (`IsBounded`).
+-- All these workers are bounded.
 abbrev pub AreBounded : List Employed → Type 0
 AreBounded es = AllByRecursion IsBounded es
 
-next_lawful : (b : Bool) (at : ℕ) (e : Employed) (what : Command)
-    → (if b then None else option_map (λ p. p.what) (next_pending e.made at (state_of e))) ≡ Some what → IsBounded e
-    → IsLawfulCommand what
-next_lawful true at e what is h = absurd cc
-next_lawful false at e what is h =
-    chore_lawful e.made (state_of e) (chore_at e.made at (state_of e)) what is h.name
+next_lawful : (b : Bool) (moment : ℕ) (e : Employed) (command : Command)
+    → (if b then None else option_map (λ p. p.what) (next_pending e.made moment (state_of e))) ≡ Some command
+    → IsBounded e
+    → IsLawfulCommand command
+next_lawful true moment e command is h = absurd cc
+next_lawful false moment e command is h =
+    chore_lawful e.made (state_of e) (chore_at e.made moment (state_of e)) command is h.name
     (limits_after e.made h.limit (worker_past e.past))
 
 bounded_at : (es : List Employed) (index : ℕ) (e : Employed) → slice_get es index ≡ Some e → AreBounded es → IsBounded e
@@ -262,79 +254,81 @@ by_some : (low : Bool) (index : ℕ) (es : List Employed) (e : Employed)
 by_some true index es e is h = absurd cc
 by_some false index es e is h = bounded_at es index e is h
 
--- If all workers are bounded (`IsBounded`), the worker of the actor `by` is bounded.
-pub bounded_by : (by : ℕ) (es : List Employed) (e : Employed) → employed_by by es ≡ Some e → AreBounded es → IsBounded e
-bounded_by by es e is h = by_some (nat_le by MOST_ACTOR) (index_of by) es e is h
+pub bounded_by : (actor : ℕ) (es : List Employed) (e : Employed) → employed_by actor es ≡ Some e → AreBounded es
+    → IsBounded e
+bounded_by actor es e is h = by_some (nat_le actor MOST_ACTOR) (index_of actor) es e is h
 
-command_bounded : (ran : Ran) (at by : ℕ) (e : Employed) (o : Option Command) → IsBounded e → AreBounded ran.workers
-    → AreBounded (with_command ran at by e o).workers
-command_bounded ran at by e None g h = bounded_set ran.workers (index_of by) e h g
-command_bounded ran at by e (Some what) g h =
-    bounded_set ran.workers (index_of by) _ h (record { name = g.name; limit = g.limit })
+command_bounded : (ran : Ran) (moment actor : ℕ) (e : Employed) (o : Option Command) → IsBounded e
+    → AreBounded ran.workers
+    → AreBounded (with_command ran moment actor e o).workers
+command_bounded ran moment actor e None g h = bounded_set ran.workers (index_of actor) e h g
+command_bounded ran moment actor e (Some command) g h =
+    bounded_set ran.workers (index_of actor) _ h (record { name = g.name; limit = g.limit })
 
-step_bounded : (ran : Ran) (at by : ℕ) (o : Option Employed) → employed_by by ran.workers ≡ o → AreBounded ran.workers
-    → AreBounded (with_step ran at by o).workers
-step_bounded ran at by None is h = h
-step_bounded ran at by (Some e) is h =
-    let g = bounded_by by ran.workers e is h in
-    command_bounded ran at by (all_called e) (command_at at (all_called e)) (record { name = g.name; limit = g.limit })
+step_bounded : (ran : Ran) (moment actor : ℕ) (o : Option Employed) → employed_by actor ran.workers ≡ o
+    → AreBounded ran.workers
+    → AreBounded (with_step ran moment actor o).workers
+step_bounded ran moment actor None is h = h
+step_bounded ran moment actor (Some e) is h =
+    let g = bounded_by actor ran.workers e is h in
+    command_bounded ran moment actor (all_called e) (command_at moment (all_called e))
+    (record { name = g.name; limit = g.limit })
     h
 
-stop_bounded : (ran : Ran) (by : ℕ) (o : Option Employed) → employed_by by ran.workers ≡ o → AreBounded ran.workers
-    → AreBounded (with_stop ran by o).workers
-stop_bounded ran by None is h = h
-stop_bounded ran by (Some e) is h =
-    let g = bounded_by by ran.workers e is h in
-    bounded_set ran.workers (index_of by) _ h (record { name = g.name; limit = g.limit })
-
-release_bounded : (ran : Ran) (at by : ℕ) (key : ShardRef) (e : Employed) (o : Option Release) → IsBounded e
+stop_bounded : (ran : Ran) (actor : ℕ) (o : Option Employed) → employed_by actor ran.workers ≡ o
     → AreBounded ran.workers
-    → AreBounded (with_release ran at by key e o).workers
-release_bounded ran at by key e None g h = h
-release_bounded ran at by key e (Some r) g h =
-    bounded_set ran.workers (index_of by) _ h (record { name = g.name; limit = g.limit })
+    → AreBounded (with_stop ran actor o).workers
+stop_bounded ran actor None is h = h
+stop_bounded ran actor (Some e) is h =
+    let g = bounded_by actor ran.workers e is h in
+    bounded_set ran.workers (index_of actor) _ h (record { name = g.name; limit = g.limit })
 
-hand_bounded : (ran : Ran) (at by : ℕ) (key : ShardRef) (o : Option Employed) → employed_by by ran.workers ≡ o
+release_bounded : (ran : Ran) (moment actor : ℕ) (key : ShardRef) (e : Employed) (o : Option Release) → IsBounded e
     → AreBounded ran.workers
-    → AreBounded (with_handed ran at by key o).workers
-hand_bounded ran at by key None is h = h
-hand_bounded ran at by key (Some e) is h =
-    release_bounded ran at by key e (release_by key (Some e)) (bounded_by by ran.workers e is h) h
+    → AreBounded (with_release ran moment actor key e o).workers
+release_bounded ran moment actor key e None g h = h
+release_bounded ran moment actor key e (Some r) g h =
+    bounded_set ran.workers (index_of actor) _ h (record { name = g.name; limit = g.limit })
 
--- If all workers of a run are bounded, they are still bounded after a line with values in their ranges (`IsLine`).
+hand_bounded : (ran : Ran) (moment actor : ℕ) (key : ShardRef) (o : Option Employed) → employed_by actor ran.workers ≡ o
+    → AreBounded ran.workers
+    → AreBounded (with_handed ran moment actor key o).workers
+hand_bounded ran moment actor key None is h = h
+hand_bounded ran moment actor key (Some e) is h =
+    release_bounded ran moment actor key e (release_by key (Some e)) (bounded_by actor ran.workers e is h) h
+
 pub line_bounded : (ran : Ran) (l : Line) → IsLine l → AreBounded ran.workers → AreBounded (with_line ran l).workers
-line_bounded ran (Api at operation body) is h = h
-line_bounded ran (Raw at by what long) is h = h
-line_bounded ran (Worker at name kind from) is h =
+line_bounded ran (Api moment operation body) is h = h
+line_bounded ran (Raw moment actor command long) is h = h
+line_bounded ran (Worker moment name kind origin) is h =
     bounded_more ran.workers _ h (record { name = is.1.0.0; limit = (omega arith, omega arith) })
-line_bounded ran (Step at by) is h = step_bounded ran at by (employed_by by ran.workers) refl h
-line_bounded ran (Stop at by) is h = stop_bounded ran by (employed_by by ran.workers) refl h
-line_bounded ran (Hand at by key) is h = hand_bounded ran at by key (employed_by by ran.workers) refl h
+line_bounded ran (Step moment actor) is h = step_bounded ran moment actor (employed_by actor ran.workers) refl h
+line_bounded ran (Stop moment actor) is h = stop_bounded ran actor (employed_by actor ran.workers) refl h
+line_bounded ran (Hand moment actor key) is h = hand_bounded ran moment actor key (employed_by actor ran.workers) refl h
 
 -- ---- The turns of the workers
 
-turn_lawful : (ran : Ran) (at by : ℕ) (e : Employed) (o : Option Command) → at < 2 ^ 62
-    → ((what : Command) → o ≡ Some what → IsLawfulCommand what) → IsHistory ran.history
-    → IsHistory (with_command ran at by e o).history
-turn_lawful ran at by e None early lawful past = past
-turn_lawful ran at by e (Some what) early lawful past = ((early, lawful what refl), past)
+turn_lawful : (ran : Ran) (moment actor : ℕ) (e : Employed) (o : Option Command) → moment < 2 ^ 62
+    → ((command : Command) → o ≡ Some command → IsLawfulCommand command) → IsHistory ran.history
+    → IsHistory (with_command ran moment actor e o).history
+turn_lawful ran moment actor e None early lawful past = past
+turn_lawful ran moment actor e (Some command) early lawful past = ((early, lawful command refl), past)
 
-step_lawful_by : (ran : Ran) (at by : ℕ) (o : Option Employed) → employed_by by ran.workers ≡ o → at < 2 ^ 62
-    → AreBounded ran.workers → IsHistory ran.history → IsHistory (with_step ran at by o).history
-step_lawful_by ran at by None is early h past = past
-step_lawful_by ran at by (Some e) is early h past =
-    let g = bounded_by by ran.workers e is h in
-    turn_lawful ran at by (all_called e) (command_at at (all_called e)) early
-    (λ what next. next_lawful _ at (all_called e) what next (record { name = g.name; limit = g.limit })) past
+step_lawful_by : (ran : Ran) (moment actor : ℕ) (o : Option Employed) → employed_by actor ran.workers ≡ o
+    → moment < 2 ^ 62
+    → AreBounded ran.workers → IsHistory ran.history → IsHistory (with_step ran moment actor o).history
+step_lawful_by ran moment actor None is early h past = past
+step_lawful_by ran moment actor (Some e) is early h past =
+    let g = bounded_by actor ran.workers e is h in
+    turn_lawful ran moment actor (all_called e) (command_at moment (all_called e)) early
+    (λ command next. next_lawful _ moment (all_called e) command next (record { name = g.name; limit = g.limit })) past
 
--- If the turns of a run are lawful, they are still lawful after a step of the worker of the actor `by`, made at a
--- moment below 2^62.
-pub step_lawful : (ran : Ran) (at by : ℕ) → at < 2 ^ 62 → AreBounded ran.workers → IsHistory ran.history
-    → IsHistory (with_step ran at by (employed_by by ran.workers)).history
-step_lawful ran at by early h past = step_lawful_by ran at by (employed_by by ran.workers) refl early h past
+pub step_lawful : (ran : Ran) (moment actor : ℕ) → moment < 2 ^ 62 → AreBounded ran.workers → IsHistory ran.history
+    → IsHistory (with_step ran moment actor (employed_by actor ran.workers)).history
+step_lawful ran moment actor early h past =
+    step_lawful_by ran moment actor (employed_by actor ran.workers) refl early h past
 
--- A stop adds no turn, so the turns of a run stay lawful.
-pub stop_lawful : (ran : Ran) (by : ℕ) (o : Option Employed) → IsHistory ran.history
-    → IsHistory (with_stop ran by o).history
-stop_lawful ran by None past = past
-stop_lawful ran by (Some e) past = past
+pub stop_lawful : (ran : Ran) (actor : ℕ) (o : Option Employed) → IsHistory ran.history
+    → IsHistory (with_stop ran actor o).history
+stop_lawful ran actor None past = past
+stop_lawful ran actor (Some e) past = past

@@ -1,5 +1,4 @@
--- A line of a schedule adds at most three turns to a run (`GrowsFew`), even if memory runs out in the middle of the
--- line.
+-- A line adds at most three turns to a run, even if memory runs out within it.
 use Rattle.std.proofs.Common.{◌≡◌, ℕ, zero, suc, ◌+◌, ◌≤◌, List, [], ◌∷◌, ◌++◌, length, Option, Some, None, Result, Ok}
 use Rattle.std.proofs.Common.{Err, refl, sym, ap, subst, ◌∙◌, arith}
 use Rattle.std.specs.Prelude.{option_map}
@@ -28,7 +27,7 @@ nothing_more h = record { more = []; few = omega arith; grows = refl }
 one_more : (h : List Turn) (turn : Turn) → GrowsFew h (turn ∷ h)
 one_more h turn = record { more = turn ∷ []; few = omega arith; grows = refl }
 
--- The history `new` is the history `old` with at most `n` turns added.
+-- The history grew by at most `n` turns.
 record GrowsBy (n : ℕ) (old new : List Turn) : Type 0 where
   more : List Turn
   few : length more ≤ n
@@ -38,84 +37,83 @@ length_end : (more : List Turn) (turn : Turn) → length (more ++ turn ∷ []) �
 length_end [] turn = refl
 length_end (t ∷ more) turn = ap suc (length_end more turn) ∙ omega arith
 
--- A run of a hand-off with the next command `o`, if any, and at most `n` commands after it adds at most `n` + 1 turns.
-grows_by : (n at by : ℕ) (h : List Turn) (x : HandOff) (o : Option Command)
-    → ((k : List Turn) (y : HandOff) → GrowsBy n k (run_hand n at by k y).history)
-    → GrowsBy (suc n) h (rounds n at by h x o).history
-grows_by n at by h x None rest = record { more = []; few = omega arith; grows = refl }
-grows_by n at by h x (Some what) rest =
-    let g = rest (turn_of at by what ∷ h) (answered_by at by h x what) in
+grows_by : (n moment actor : ℕ) (h : List Turn) (x : HandOff) (o : Option Command)
+    → ((k : List Turn) (y : HandOff) → GrowsBy n k (run_hand n moment actor k y).history)
+    → GrowsBy (suc n) h (rounds n moment actor h x o).history
+grows_by n moment actor h x None rest = record { more = []; few = omega arith; grows = refl }
+grows_by n moment actor h x (Some command) rest =
+    let g = rest (turn_of moment actor command ∷ h) (answered_by moment actor h x command) in
     record {
-      more = g.more ++ turn_of at by what ∷ [];
-      few = omega (arith, g.few, length_end g.more (turn_of at by what));
-      grows = g.grows ∙ sym (append_assoc g.more (turn_of at by what ∷ []) h);
+      more = g.more ++ turn_of moment actor command ∷ [];
+      few = omega (arith, g.few, length_end g.more (turn_of moment actor command));
+      grows = g.grows ∙ sym (append_assoc g.more (turn_of moment actor command ∷ []) h);
     }
 
--- A run of a hand-off with at most `n` commands adds at most `n` turns.
-run_grows : (n at by : ℕ) (h : List Turn) (x : HandOff) → GrowsBy n h (run_hand n at by h x).history
-run_grows zero at by h x = record { more = []; few = omega arith; grows = refl }
-run_grows (suc n) at by h x =
-    grows_by n at by h (called_up x) (hand_command (called_up x).held (called_up x).made (state_of (called_up x)))
-    (λ k y. run_grows n at by k y)
+run_grows : (n moment actor : ℕ) (h : List Turn) (x : HandOff) → GrowsBy n h (run_hand n moment actor h x).history
+run_grows zero moment actor h x = record { more = []; few = omega arith; grows = refl }
+run_grows (suc n) moment actor h x =
+    grows_by n moment actor h (called_up x)
+    (hand_command (called_up x).held (called_up x).made (state_of (called_up x)))
+    (λ k y. run_grows n moment actor k y)
 
-hand_grows : (n at by : ℕ) (h : List Turn) (r : Release) → n ≤ 3 → GrowsFew h (history_at n h at by r)
-hand_grows n at by h r few =
-    let g = run_grows n at by h (hand_of r []) in
+hand_grows : (n moment actor : ℕ) (h : List Turn) (r : Release) → n ≤ 3 → GrowsFew h (history_at n h moment actor r)
+hand_grows n moment actor h r few =
+    let g = run_grows n moment actor h (hand_of r []) in
     record { more = g.more; few = omega (arith, few, g.few); grows = g.grows }
 
 -- ---- Lines
 
-request_grows : (h : List Turn) (at : ℕ) (r : Result Command Fault) → GrowsFew h (requested h at r)
-request_grows h at (Ok what) = one_more h (request_turn at what)
-request_grows h at (Err f) = nothing_more h
+request_grows : (h : List Turn) (moment : ℕ) (r : Result Command Fault) → GrowsFew h (requested h moment r)
+request_grows h moment (Ok command) = one_more h (request_turn moment command)
+request_grows h moment (Err f) = nothing_more h
 
-command_grows : (ran : Ran) (at by : ℕ) (e : Employed) (o : Option Command)
-    → GrowsFew ran.history (with_command ran at by e o).history
-command_grows ran at by e None = nothing_more ran.history
-command_grows ran at by e (Some what) = one_more ran.history (raw_turn at by what)
+command_grows : (ran : Ran) (moment actor : ℕ) (e : Employed) (o : Option Command)
+    → GrowsFew ran.history (with_command ran moment actor e o).history
+command_grows ran moment actor e None = nothing_more ran.history
+command_grows ran moment actor e (Some command) = one_more ran.history (raw_turn moment actor command)
 
-step_grows : (ran : Ran) (at by : ℕ) (o : Option Employed) → GrowsFew ran.history (with_step ran at by o).history
-step_grows ran at by None = nothing_more ran.history
-step_grows ran at by (Some e) = command_grows ran at by (all_called e) (command_at at (all_called e))
+step_grows : (ran : Ran) (moment actor : ℕ) (o : Option Employed)
+    → GrowsFew ran.history (with_step ran moment actor o).history
+step_grows ran moment actor None = nothing_more ran.history
+step_grows ran moment actor (Some e) = command_grows ran moment actor (all_called e) (command_at moment (all_called e))
 
-stop_grows : (ran : Ran) (by : ℕ) (o : Option Employed) → GrowsFew ran.history (with_stop ran by o).history
-stop_grows ran by None = nothing_more ran.history
-stop_grows ran by (Some e) = nothing_more ran.history
+stop_grows : (ran : Ran) (actor : ℕ) (o : Option Employed) → GrowsFew ran.history (with_stop ran actor o).history
+stop_grows ran actor None = nothing_more ran.history
+stop_grows ran actor (Some e) = nothing_more ran.history
 
-release_grows : (ran : Ran) (at by : ℕ) (key : ShardRef) (e : Employed) (o : Option Release)
-    → GrowsFew ran.history (with_release ran at by key e o).history
-release_grows ran at by key e None = nothing_more ran.history
-release_grows ran at by key e (Some r) = hand_grows 3 at by ran.history r (omega arith)
+release_grows : (ran : Ran) (moment actor : ℕ) (key : ShardRef) (e : Employed) (o : Option Release)
+    → GrowsFew ran.history (with_release ran moment actor key e o).history
+release_grows ran moment actor key e None = nothing_more ran.history
+release_grows ran moment actor key e (Some r) = hand_grows 3 moment actor ran.history r (omega arith)
 
-handed_grows : (ran : Ran) (at by : ℕ) (key : ShardRef) (o : Option Employed)
-    → GrowsFew ran.history (with_handed ran at by key o).history
-handed_grows ran at by key None = nothing_more ran.history
-handed_grows ran at by key (Some e) = release_grows ran at by key e (release_by key (Some e))
+handed_grows : (ran : Ran) (moment actor : ℕ) (key : ShardRef) (o : Option Employed)
+    → GrowsFew ran.history (with_handed ran moment actor key o).history
+handed_grows ran moment actor key None = nothing_more ran.history
+handed_grows ran moment actor key (Some e) = release_grows ran moment actor key e (release_by key (Some e))
 
--- A line adds at most three turns to the run `ran`.
 pub line_grows : (ran : Ran) (l : Line) → GrowsFew ran.history (with_line ran l).history
-line_grows ran (Api at operation body) = request_grows ran.history at (asked operation body)
-line_grows ran (Raw at by what long) = one_more ran.history (raw_turn at by what)
-line_grows ran (Worker at name kind from) = nothing_more ran.history
-line_grows ran (Step at by) = step_grows ran at by (employed_by by ran.workers)
-line_grows ran (Stop at by) = stop_grows ran by (employed_by by ran.workers)
-line_grows ran (Hand at by key) = handed_grows ran at by key (employed_by by ran.workers)
+line_grows ran (Api moment operation body) = request_grows ran.history moment (asked operation body)
+line_grows ran (Raw moment actor command long) = one_more ran.history (raw_turn moment actor command)
+line_grows ran (Worker moment name kind origin) = nothing_more ran.history
+line_grows ran (Step moment actor) = step_grows ran moment actor (employed_by actor ran.workers)
+line_grows ran (Stop moment actor) = stop_grows ran actor (employed_by actor ran.workers)
+line_grows ran (Hand moment actor key) = handed_grows ran moment actor key (employed_by actor ran.workers)
 
 -- ---- Out of memory in the middle of a line
 
-part_by : (n at by : ℕ) (h k : List Turn) (o : Option Release) → option_map (history_at n h at by) o ≡ Some k → n ≤ 3
+part_by : (n moment actor : ℕ) (h k : List Turn) (o : Option Release)
+    → option_map (history_at n h moment actor) o ≡ Some k → n ≤ 3
     → GrowsFew h k
-part_by n at by h k None is few = absurd cc
-part_by n at by h k (Some r) is few =
-    let same : history_at n h at by r ≡ k = cc in
-    subst (GrowsFew h) same (hand_grows n at by h r few)
+part_by n moment actor h k None is few = absurd cc
+part_by n moment actor h k (Some r) is few =
+    let same : history_at n h moment actor r ≡ k = cc in
+    subst (GrowsFew h) same (hand_grows n moment actor h r few)
 
 part_of_line : (n : ℕ) (ran : Ran) (l : Line) (k : List Turn) → part_of n ran l ≡ Some k → n ≤ 3
     → GrowsFew ran.history k
-part_of_line n ran (Hand at by key) k is few =
-    part_by n at by ran.history k (release_by key (employed_by by ran.workers)) is few
+part_of_line n ran (Hand moment actor key) k is few =
+    part_by n moment actor ran.history k (release_by key (employed_by actor ran.workers)) is few
 part_of_line n ran _ k is few = absurd cc
 
--- If memory ran out in the middle of a line, the line added at most three turns to the run `ran`.
 pub part_grows : (s : SimValue) (ran : Ran) (l : Line) → HasRunPart s ran l → GrowsFew ran.history s.history
 part_grows s ran l p = part_of_line p.ran_of_it ran l s.history p.history p.few

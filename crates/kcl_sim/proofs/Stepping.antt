@@ -1,5 +1,4 @@
--- The parts of a worker's step keep `Employs`: the worker stands for its record, with the calls, the command and the
--- answer of the step added. In a step, all due calls are made, and then the next command is given and answered.
+-- The parts of a worker's step keep the worker standing for its trace.
 use Rattle.std.proofs.Common.{◌≡◌, ℕ, true, false, ◌∷◌, Option, Some, None, Result, refl, sym, ap, subst, ◌∙◌}
 use Rattle.std.specs.Prelude.{if◌then◌else◌, is_some, option_map}
 use Rattle.kds_defs.specs.declared.command.Command.{Command}
@@ -17,14 +16,11 @@ use Rattle.kcl_sim.specs.Workers.{Employed, all_called, answered, command_at, st
 use Rattle.kcl_worker.proofs.Outlooks.{idle_same, none_due}
 use Rattle.kcl_sim.proofs.Calling.{all_made, ask_of, one_called}
 
--- If `is_some` is false for an Option, the Option is None.
 pub no_some : {A : Type 0} (o : Option A) → false ≡ is_some o → o ≡ None
 no_some None h = refl
 no_some (Some x) h = absurd cc
 
--- The worker `old` stands for the record `d`. Once all due calls are made, `d` and `e` become the same record
--- (`all_called`). If one due call of `old` was made and `old` became `new`, then `new` stands for a record `f` that
--- becomes this record too.
+-- One due call leads to a trace that still becomes `all_called e`.
 pub called_on : (old new : Stepped) (e d : Employed) → new.made ≡ old.made → new.maker ≡ old.maker
     → AddsCall Calls (λ batch a. a ≡ asked_of old.maker batch) old new
     → Employs old d → all_called d ≡ all_called e → (f : Employed) × Employs new f × (all_called f ≡ all_called e)
@@ -38,8 +34,7 @@ called_on old new e d made maker adds s same =
       one_called d k.0 r.0 is k.2 ∙ same,
     )
 
--- The worker `w` stands for the record `d`. Once all due calls are made, `d` and `e` become the same record
--- (`all_called`). If no call of `w` is due any more, then `w` stands for this record.
+-- Once no call is due, the worker stands for `all_called e`.
 pub all_done : (w : Stepped) (e d : Employed) → due_in w.consumers ≡ None → Employs w d → all_called d ≡ all_called e
     → Employs w (all_called e)
 all_done w e d none s same =
@@ -49,45 +44,40 @@ all_done w e d none s same =
     ∙ quiet in
     subst (Employs w) (sym (all_made d is) ∙ same) s
 
--- If the worker `w` is idle, no command comes next for its record `e`.
-pub idle_command : (w : Stepped) (e : Employed) (at : ℕ) → is_idle_in w ≡ true → Employs w e → command_at at e ≡ None
-idle_command w e at idle s =
+pub idle_command : (w : Stepped) (e : Employed) (moment : ℕ) → is_idle_in w ≡ true → Employs w e
+    → command_at moment e ≡ None
+idle_command w e moment idle s =
     let is : is_idle (state_of e) ≡ true =
     ap (λ m. is_idle (worker_after m (worker_past e.past))) (sym s.made)
     ∙ sym (idle_same Calls w (worker_past e.past) s.stands) ∙ idle in
-    ap (λ b. if b then None else option_map (λ p. p.what) (next_pending e.made at (state_of e))) is
+    ap (λ b. if b then None else option_map (λ p. p.what) (next_pending e.made moment (state_of e))) is
 
--- If the worker `old` isn't idle, gave the command `what` and became `new`, then `what` comes next for its record `e`,
--- and `new` waits for the answer (`HasAsked`).
-pub next_command : (old new : Stepped) (e : Employed) (at : ℕ) (what : Command) → is_idle_in old ≡ false
-    → new.made ≡ old.made → new.maker ≡ old.maker → AddsCommand Calls old new at what → Employs old e
-    → (command_at at e ≡ Some what) × HasAsked at new e
-next_command old new e at what busy made maker adds s =
+-- A busy worker gives the command that comes next for its trace, and waits for the answer.
+pub next_command : (old new : Stepped) (e : Employed) (moment : ℕ) (command : Command) → is_idle_in old ≡ false
+    → new.made ≡ old.made → new.maker ≡ old.maker → AddsCommand Calls old new moment command → Employs old e
+    → (command_at moment e ≡ Some command) × HasAsked moment new e
+next_command old new e moment command busy made maker adds s =
     let r = adds (worker_past e.past) s.stands in
     let is : is_idle (state_of e) ≡ false =
     ap (λ m. is_idle (worker_after m (worker_past e.past))) (sym s.made)
     ∙ sym (idle_same Calls old (worker_past e.past) s.stands) ∙ busy in
-    let next : next_pending e.made at (state_of e) ≡ Some r.0 =
-    ap (λ m. next_pending m at (worker_after m (worker_past e.past))) (sym s.made) ∙ r.1 in (
-      ap (λ b. if b then None else option_map (λ p. p.what) (next_pending e.made at (state_of e))) is
+    let next : next_pending e.made moment (state_of e) ≡ Some r.0 =
+    ap (λ m. next_pending m moment (worker_after m (worker_past e.past))) (sym s.made) ∙ r.1 in (
+      ap (λ b. if b then None else option_map (λ p. p.what) (next_pending e.made moment (state_of e))) is
           ∙ ap (option_map (λ p. p.what)) next ∙ ap Some r.2,
       record { made = made ∙ s.made; kind = λ batch. ap (λ m. asked_of m batch) maker ∙ s.kind batch; stands = r.3 },
     )
 
--- The worker `old` of the record `e` waits for the answer to a command. If `old` took the answer `answer` and became
--- `new`, then `new` stands for `e` with the command and the answer added.
-pub answer_on : (old new : Stepped) (e : Employed) (at : ℕ) (answer : Result Reply Refusal) → new.made ≡ old.made
+pub answer_on : (old new : Stepped) (e : Employed) (moment : ℕ) (answer : Result Reply Refusal) → new.made ≡ old.made
     → AllowsSame (λ batch a. a ≡ asked_of new.maker batch) (λ batch a. a ≡ asked_of old.maker batch)
-    → AddsAnswer Calls old new at answer → HasAsked at old e → Employs new (answered at answer e)
-answer_on old new e at answer made same adds s =
+    → AddsAnswer Calls old new moment answer → HasAsked moment old e → Employs new (answered moment answer e)
+answer_on old new e moment answer made same adds s =
     record {
       made = made ∙ s.made;
       kind = λ batch. (same batch (asked_of new.maker batch)).0 refl ∙ s.kind batch;
-      stands = adds (Gave_command at ∷ worker_past e.past) s.stands;
+      stands = adds (Gave_command moment ∷ worker_past e.past) s.stands;
     }
 
--- If the worker `old` of the record `e` was told to stop and became `new`, then `new` stands for `e` with this stop
--- added.
 pub stop_on : (old new : Stepped) (e : Employed) → new.made ≡ old.made → new.maker ≡ old.maker → AddsStop Calls old new
     → Employs old e → Employs new (stopped e)
 stop_on old new e made maker adds s =

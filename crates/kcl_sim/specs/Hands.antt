@@ -1,5 +1,4 @@
--- A hand-off in the middle of its run: what the hand-off stands for, and what one command of the hand-off, or its whole
--- run, changes.
+-- A hand-off in the middle of its run, and what one command or the whole run changes.
 use Rattle.std.specs.Prelude.{◌≡◌, ◌≤◌, ℕ, Bool, List, ◌∷◌, ◌++◌, Some}
 use Rattle.kds_defs.specs.declared.command.Command.{Command}
 use Rattle.kds_defs.specs.declared.command.Turn.{Turn}
@@ -15,56 +14,49 @@ use Rattle.kcl_sim.specs.Keeping.{if_wanted}
 use Rattle.kcl_sim.specs.Output.{deal_text, raw_turn, run_text}
 use Rattle.kcl_sim.specs.Standing.{SimValue}
 
--- A hand-off as callers see it, with one of the ready-made processors (`Stock`).
+-- A hand-off as callers see it, with a ready-made processor.
 abbrev pub Handing : Type 0
 Handing = HandStanding Stock
 
--- The hand-off `v` stands for the record `x`: `v` and `x` have the same lease, their consumers were made with the same
--- values, and `v` stands for the events of `x`. The consumer of `v` is in a stage after the loss of a lease
--- (`IsLeaving`).
+-- `v` stands for the trace `x`: same lease, settings and events; its stage is one after the loss of a lease.
 pub record IsHandOf (v : Handing) (x : HandOff) : Type 0 where
   pub held : v.held ≡ x.held
   pub made : v.consumer.made ≡ x.made
   pub stands : StandsFor Calls v x.before x.since
   pub leaving : IsLeaving v.consumer.stage
 
--- The command `what`, sent by the actor `by` at the moment `at` right after the history `h`, paired with its answer.
-abbrev pub deal_at : ℕ → ℕ → List Turn → Command → Deal
-deal_at at by h what = record { what = what; answer = answer h (raw_turn at by what) }
+-- The command sent right after the history, with its answer.
+abbrev pub deal_at : (moment actor : ℕ) (h : List Turn) (command : Command) → Deal
+deal_at moment actor h command = record { what = command; answer = answer h (raw_turn moment actor command) }
 
--- `what` is the next command of the hand-off `v`: it comes next for every record `x` for which `v` stands.
-abbrev pub ComesNext : Handing → Command → Type 0
-ComesNext v what = (x : HandOff) → IsHandOf v x → hand_command x.held x.made (state_of x) ≡ Some what
+-- `command` comes next for every trace that `v` stands for.
+abbrev pub ComesNext : (v : Handing) (command : Command) → Type 0
+ComesNext v command = (x : HandOff) → IsHandOf v x → hand_command x.held x.made (state_of x) ≡ Some command
 
--- The next command of the hand-off `v` became a turn and was answered, and then the due call of the processor, if any,
--- was made. The hand-off is now `w`. `old` and `new` are the run before and after this round. If answers are wanted
--- (`wanted`), the command with its answer was added to the output, which was `before` and is now `after`.
-pub record MadeRound (wanted : Bool) (at by : ℕ) (old new : SimValue) (v w : Handing) (before after : List ℕ) :
+-- One round: `v`'s next command became a turn, was answered, and the due call, if any, was made.
+pub record MadeRound (wanted : Bool) (moment actor : ℕ) (old new : SimValue) (v w : Handing) (earlier after : List ℕ) :
     Type 0 where
   pub what : Command
   pub next : ComesNext v what
-  pub history : new.history ≡ raw_turn at by what ∷ old.history
-  pub hand : (x : HandOff) → IsHandOf v x → IsHandOf w (called_up (answered_by at by old.history x what))
-  pub wrote : after ≡ before ++ if_wanted wanted (deal_text (deal_at at by old.history what))
+  pub history : new.history ≡ raw_turn moment actor what ∷ old.history
+  pub hand : (x : HandOff) → IsHandOf v x → IsHandOf w (called_up (answered_by moment actor old.history x what))
+  pub wrote : after ≡ earlier ++ if_wanted wanted (deal_text (deal_at moment actor old.history what))
 
--- Memory ran out after the next command `what` of the hand-off `v` became a turn. `old` is the run before this turn,
--- and `new` is the run after it. Only the histories of `old` and `new` are compared.
-pub record RanCommand (at by : ℕ) (old new : SimValue) (v : Handing) : Type 0 where
+-- Memory ran out after `v`'s next command became a turn; only the histories are compared.
+pub record RanCommand (moment actor : ℕ) (old new : SimValue) (v : Handing) : Type 0 where
   pub what : Command
   pub next : ComesNext v what
-  pub history : new.history ≡ raw_turn at by what ∷ old.history
+  pub history : new.history ≡ raw_turn moment actor what ∷ old.history
 
--- The hand-off `v` ran to its end: `old` is the run before the hand-off, and `new` is the run after it. If answers are
--- wanted (`wanted`), the hand-off's line of output was added to the output, which was `before` and is now `after`.
-pub record RanToEnd (wanted : Bool) (at by : ℕ) (old new : SimValue) (v : Handing) (before after : List ℕ) :
+-- The hand-off ran to its end, and its line of output was added if answers are wanted.
+pub record RanToEnd (wanted : Bool) (moment actor : ℕ) (old new : SimValue) (v : Handing) (earlier after : List ℕ) :
     Type 0 where
-  pub history : (x : HandOff) → IsHandOf v x → new.history ≡ (hand_run at by old.history x).history
+  pub history : (x : HandOff) → IsHandOf v x → new.history ≡ (hand_run moment actor old.history x).history
   pub wrote : (x : HandOff) → IsHandOf v x
-      → after ≡ before ++ if_wanted wanted (run_text (hand_run at by old.history x))
+      → after ≡ earlier ++ if_wanted wanted (run_text (hand_run moment actor old.history x))
 
--- Memory ran out in the middle of the hand-off `v`: only the first commands of `v` became turns, at most three and
--- perhaps none. `old` is the run before the hand-off, and `new` is the run after these turns.
-pub record RanFirst (at by : ℕ) (old new : SimValue) (v : Handing) : Type 0 where
+-- Memory ran out within the hand-off, after its first commands became turns: three at most, perhaps none.
+pub record RanFirst (moment actor : ℕ) (old new : SimValue) (v : Handing) : Type 0 where
   pub ran_of_it : ℕ
   pub few : ran_of_it ≤ 3
-  pub history : (x : HandOff) → IsHandOf v x → new.history ≡ (run_hand ran_of_it at by old.history x).history
+  pub history : (x : HandOff) → IsHandOf v x → new.history ≡ (run_hand ran_of_it moment actor old.history x).history

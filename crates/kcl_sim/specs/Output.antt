@@ -1,4 +1,4 @@
--- The run of a schedule: what each line adds to the run's turns and workers, and what it adds to the output.
+-- The run of a schedule: what each line adds to turns, workers and output.
 use Rattle.std.specs.Prelude.{ℕ, ◌≡◌, List, [], ◌∷◌, ◌++◌, codes, decimal, length, Bool, false, Option, Some, None}
 use Rattle.std.specs.Prelude.{option_map, Result, Ok, Err, OnErr, OnOk}
 use Rattle.kds_base.specs.declared.lease_key.ShardRef.{ShardRef}
@@ -23,185 +23,173 @@ use Rattle.kcl_script.specs.declared.line.Line.TheVariants.{Api, Hand, Raw, Step
 use Rattle.kcl_sim.specs.Workers.{Employed, actor_at, all_called, answered, command_at, employed_by, hired, release_by}
 use Rattle.kcl_sim.specs.Workers.{stopped, with_employed}
 
--- A body as the end of an output line: a space and the body, or nothing if the body is empty.
-abbrev pub body_part : List ℕ → List ℕ
+-- A body at the end of an output line: a space, then the body; nothing if it is empty.
+abbrev pub body_part : (bs : List ℕ) → List ℕ
 body_part [] = []
 body_part (b ∷ bs) = 32 ∷ b ∷ bs
 
--- The line of output with the status `r.0` and the body `r.1`, ended by a line feed.
-abbrev pub printed : ℕ × List ℕ → List ℕ
+-- The output line with the status `r.0` and the body `r.1`.
+abbrev pub printed : (r : ℕ × List ℕ) → List ℕ
 printed r = decimal r.0 ++ (body_part r.1 ++ 10 ∷ [])
 
--- If `result` is Ok, the output `new` is the output `old` with `text` added. If `result` is an error, `new` is `old`.
+-- On Ok the whole text is added to the output; on an error nothing is.
 pub record AddsWhole {A E : Type 0} (result : Result A E) (old new text : List ℕ) : Type 0 where
   pub ok : OnOk result (new ≡ old ++ text)
   pub err : OnErr result (new ≡ old)
 
--- The state of a run: the history of its turns, the newest first, and its workers, in the order in which they were
--- made.
+-- The state of a run: its turns, newest first, and its workers in the order of their start.
 pub record Ran : Type 0 where
   pub history : List Turn
   pub workers : List Employed
 
--- The run before its first line: no turns and no workers.
+-- The run before its first line.
 abbrev pub fresh : Ran
 fresh = record { history = []; workers = [] }
 
--- The run `ran` with the turn added to its history. The workers stay the same.
-abbrev pub with_turn : Ran → Turn → Ran
+-- The run with one more turn.
+abbrev pub with_turn : (ran : Ran) (turn : Turn) → Ran
 with_turn ran turn = record ran { history = turn ∷ ran.history }
 
--- The run `ran` with `e` in the place of the worker of the actor `by`. The history stays the same.
-abbrev pub with_worker : Ran → ℕ → Employed → Ran
-with_worker ran by e = record ran { workers = with_employed by e ran.workers }
+-- The run with `e` in place of the worker of the actor `actor`.
+abbrev pub with_worker : (ran : Ran) (actor : ℕ) (e : Employed) → Ran
+with_worker ran actor e = record ran { workers = with_employed actor e ran.workers }
 
 -- ---- Requests and raw lines
 
--- The history after a request at the moment `at`. A request with a command adds a turn, and a request with the fault
--- `f` adds none.
-abbrev pub requested : List Turn → ℕ → Result Command Fault → List Turn
-requested h at (Ok what) = request_turn at what ∷ h
-requested h at (Err f) = h
+-- The history after a request: a command adds a turn, a fault adds none.
+abbrev pub requested : (h : List Turn) (moment : ℕ) (result : Result Command Fault) → List Turn
+requested h moment (Ok command) = request_turn moment command ∷ h
+requested h moment (Err f) = h
 
--- The output of a request after the history `h`: the reply to its command, or the reply that states the fault `f`.
-abbrev pub request_output : List Turn → ℕ → Result Command Fault → List ℕ
-request_output h at (Ok what) = printed (reply_of (answer h (request_turn at what)))
-request_output h at (Err f) = printed (fault_reply f)
+-- The output of a request: the reply to its command, or to its fault.
+abbrev pub request_output : (h : List Turn) (moment : ℕ) (result : Result Command Fault) → List ℕ
+request_output h moment (Ok command) = printed (reply_of (answer h (request_turn moment command)))
+request_output h moment (Err f) = printed (fault_reply f)
 
--- The turn with the command `what`, by the actor `by` at the moment `at`.
-abbrev pub raw_turn : ℕ → ℕ → Command → Turn
-raw_turn at by what = record { by = by; at = at; what = what }
+-- The turn with this command.
+abbrev pub raw_turn : (moment actor : ℕ) (command : Command) → Turn
+raw_turn moment actor command = record { by = actor; at = moment; what = command }
 
--- The line of output of `turn` after the history `h`: the text of the answer. If `long` is true, the answer to a survey
--- is printed with each row, and otherwise with the numbers of shards and rows.
-abbrev pub raw_output : List Turn → Turn → Bool → List ℕ
+-- The output line of a turn: its answer; `long` prints a survey's rows, otherwise their number.
+abbrev pub raw_output : (h : List Turn) (turn : Turn) (long : Bool) → List ℕ
 raw_output h turn long = answer_text long (answer h turn) ++ 10 ∷ []
 
 -- ---- Steps of workers
 
--- The due calls of the worker `e` of the actor `by` were made. This is the run after the worker's next command (the
--- last argument) became a turn at the moment `at`, and the worker took the answer. If there is no next command (None),
--- no turn is added.
-abbrev pub with_command : Ran → ℕ → ℕ → Employed → Option Command → Ran
-with_command ran at by e None = with_worker ran by e
-with_command ran at by e (Some what) =
-    with_worker (with_turn ran (raw_turn at by what)) by (answered at (answer ran.history (raw_turn at by what)) e)
+-- The run after `e`, its due calls made, sent its next command and took the answer; None adds no turn.
+abbrev pub with_command : (ran : Ran) (moment actor : ℕ) (e : Employed) (command : Option Command) → Ran
+with_command ran moment actor e None = with_worker ran actor e
+with_command ran moment actor e (Some command) =
+    with_worker (with_turn ran (raw_turn moment actor command)) actor
+    (answered moment (answer ran.history (raw_turn moment actor command)) e)
 
--- The output of a step of the actor `by` after the history `h`: the step's command with the answer, or "idle" if there
--- is no command.
-abbrev pub command_output : List Turn → ℕ → ℕ → Option Command → List ℕ
-command_output h at by None = codes "idle" ++ 10 ∷ []
-command_output h at by (Some what) =
-    command_text what ++ (codes " = " ++ (answer_text false (answer h (raw_turn at by what)) ++ 10 ∷ []))
+-- The output of a step: the command with its answer, or "idle" if there is none.
+abbrev pub command_output : (h : List Turn) (moment actor : ℕ) (command : Option Command) → List ℕ
+command_output h moment actor None = codes "idle" ++ 10 ∷ []
+command_output h moment actor (Some command) =
+    command_text command ++ (codes " = " ++ (answer_text false (answer h (raw_turn moment actor command)) ++ 10 ∷ []))
 
--- The run after a step of the worker of the actor `by` at the moment `at`: all due calls of the worker are made, and
--- then its next command, if any, becomes a turn. If there is no worker (None), nothing changes.
-abbrev pub with_step : Ran → ℕ → ℕ → Option Employed → Ran
-with_step ran at by None = ran
-with_step ran at by (Some e) = with_command ran at by (all_called e) (command_at at (all_called e))
+-- The run after a worker's step: all due calls, then its next command, if any. None changes nothing.
+abbrev pub with_step : (ran : Ran) (moment actor : ℕ) (e : Option Employed) → Ran
+with_step ran moment actor None = ran
+with_step ran moment actor (Some e) = with_command ran moment actor (all_called e) (command_at moment (all_called e))
 
--- The output of a step of the worker of the actor `by` at the moment `at`: the command with its answer, or "idle" if no
--- command comes next. If the actor has no worker, the output is "none".
-abbrev pub step_output : Ran → ℕ → ℕ → Option Employed → List ℕ
-step_output ran at by None = codes "none" ++ 10 ∷ []
-step_output ran at by (Some e) = command_output ran.history at by (command_at at (all_called e))
+-- The output of a step: the command with its answer, "idle", or "none" without a worker.
+abbrev pub step_output : (ran : Ran) (moment actor : ℕ) (e : Option Employed) → List ℕ
+step_output ran moment actor None = codes "none" ++ 10 ∷ []
+step_output ran moment actor (Some e) = command_output ran.history moment actor (command_at moment (all_called e))
 
 -- ---- Stops
 
--- The run after a stop of the worker of the actor `by`. If there is no worker (None), nothing changes.
-abbrev pub with_stop : Ran → ℕ → Option Employed → Ran
-with_stop ran by None = ran
-with_stop ran by (Some e) = with_worker ran by (stopped e)
+-- The run after a worker was told to stop.
+abbrev pub with_stop : (ran : Ran) (actor : ℕ) (e : Option Employed) → Ran
+with_stop ran actor None = ran
+with_stop ran actor (Some e) = with_worker ran actor (stopped e)
 
--- The output of a stop: "stopping", or "none" if there is no worker.
-abbrev pub stop_output : Option Employed → List ℕ
+-- The output of a stop: "stopping", or "none" without a worker.
+abbrev pub stop_output : (e : Option Employed) → List ℕ
 stop_output None = codes "none" ++ 10 ∷ []
 stop_output (Some e) = codes "stopping" ++ 10 ∷ []
 
 -- ---- Hand-offs
 
--- The run after the worker `e` of the actor `by` released a lease of the key `key`, and `run` was the run of this
--- lease's hand-off. The history is the one at the end of `run`. The release and the events of the hand-off are added to
--- the record of `e`.
-abbrev pub with_hand_run : Ran → ℕ → ShardRef → Employed → HandRun → Ran
-with_hand_run ran by key e run =
-    with_worker (record ran { history = run.history }) by
+-- The run after `e` released the lease of `key` and its hand-off made `run`; `e`'s trace has both.
+abbrev pub with_hand_run : (ran : Ran) (actor : ℕ) (key : ShardRef) (e : Employed) (run : HandRun) → Ran
+with_hand_run ran actor key e run =
+    with_worker (record ran { history = run.history }) actor
     (record e { past = with_hand key run.hand.since e.made e.past })
 
--- The run after the worker `e` of the actor `by` released the lease of the release `r`, and the hand-off of this lease
--- ran to its end at the moment `at`. If no lease was released (None), nothing changes.
-abbrev pub with_release : Ran → ℕ → ℕ → ShardRef → Employed → Option Release → Ran
-with_release ran at by key e None = ran
-with_release ran at by key e (Some r) = with_hand_run ran by key e (hand_run at by ran.history (hand_of r []))
+-- The run after the release's hand-off ran to its end; None changes nothing.
+abbrev pub with_release : (ran : Ran) (moment actor : ℕ) (key : ShardRef) (e : Employed) (r : Option Release) → Ran
+with_release ran moment actor key e None = ran
+with_release ran moment actor key e (Some r) =
+    with_hand_run ran actor key e (hand_run moment actor ran.history (hand_of r []))
 
--- The run after a hand-off of the key `key` by the worker of the actor `by`. If there is no worker (None), or if the
--- worker releases no lease, nothing changes.
-abbrev pub with_handed : Ran → ℕ → ℕ → ShardRef → Option Employed → Ran
-with_handed ran at by key None = ran
-with_handed ran at by key (Some e) = with_release ran at by key e (release_by key (Some e))
+-- The run after a hand-off line; without a worker or such a lease nothing changes.
+abbrev pub with_handed : (ran : Ran) (moment actor : ℕ) (key : ShardRef) (e : Option Employed) → Ran
+with_handed ran moment actor key None = ran
+with_handed ran moment actor key (Some e) = with_release ran moment actor key e (release_by key (Some e))
 
--- The text of a command and its answer, in the form `COMMAND = ANSWER; `.
-abbrev pub deal_text : Deal → List ℕ
+-- A command and its answer, as `COMMAND = ANSWER; `.
+abbrev pub deal_text : (deal : Deal) → List ℕ
 deal_text deal = command_text deal.what ++ (codes " = " ++ (answer_text false deal.answer ++ codes "; "))
 
--- The texts of the commands with their answers, one after another.
-abbrev pub deals_text : List Deal → List ℕ
+-- Each command with its answer, in order.
+abbrev pub deals_text : (deals : List Deal) → List ℕ
 deals_text [] = []
 deals_text (deal ∷ deals) = deal_text deal ++ deals_text deals
 
--- The word for the end of a hand-off: "refused" if its mark or its freeing was refused, and otherwise "handed".
-abbrev pub left_text : Option Left → List ℕ
+-- How a hand-off ended: "refused" if its mark or its freeing was refused, else "handed".
+abbrev pub left_text : (left : Option Left) → List ℕ
 left_text (Some (left.Refused r)) = codes "refused"
 left_text _ = codes "handed"
 
--- The line of output for the run of a hand-off: each command with its answer, and then "handed" or "refused".
-abbrev pub run_text : HandRun → List ℕ
+-- The output line of a hand-off: its commands with answers, then "handed" or "refused".
+abbrev pub run_text : (run : HandRun) → List ℕ
 run_text run = deals_text run.deals ++ (left_text (hand_left (state_of run.hand)) ++ 10 ∷ [])
 
--- The output of a hand-off line after the history `h`: that of the run of the hand-off which the release `r` begins, or
--- "none" if no lease was released.
-abbrev pub hand_output : List Turn → ℕ → ℕ → Option Release → List ℕ
-hand_output h at by None = codes "none" ++ 10 ∷ []
-hand_output h at by (Some r) = run_text (hand_run at by h (hand_of r []))
+-- The output of a hand-off line, or "none" if no lease was released.
+abbrev pub hand_output : (h : List Turn) (moment actor : ℕ) (r : Option Release) → List ℕ
+hand_output h moment actor None = codes "none" ++ 10 ∷ []
+hand_output h moment actor (Some r) = run_text (hand_run moment actor h (hand_of r []))
 
--- The history after at most the first `n` commands of the hand-off that the release `r` begins. `h` is the history
--- before the hand-off.
-abbrev pub history_at : ℕ → List Turn → ℕ → ℕ → Release → List Turn
-history_at n h at by r = (run_hand n at by h (hand_of r [])).history
+-- The history after at most the first `n` commands of the released lease's hand-off.
+abbrev pub history_at : (n : ℕ) (h : List Turn) (moment actor : ℕ) (r : Release) → List Turn
+history_at n h moment actor r = (run_hand n moment actor h (hand_of r [])).history
 
--- The history after at most the first `n` commands of the hand-off that the line makes. The result is None if the line
--- isn't a hand-off, or if no lease is released.
-abbrev pub part_of : ℕ → Ran → Line → Option (List Turn)
-part_of n ran (Hand at by key) =
-    option_map (history_at n ran.history at by) (release_by key (employed_by by ran.workers))
+-- The history after at most `n` commands of a hand-off line; None if no lease is released or the line is another.
+abbrev pub part_of : (n : ℕ) (ran : Ran) (line : Line) → Option (List Turn)
+part_of n ran (Hand moment actor key) =
+    option_map (history_at n ran.history moment actor) (release_by key (employed_by actor ran.workers))
 part_of n ran _ = None
 
 -- ---- Lines
 
--- The run `ran` after the line in the second argument. A `raw` line always adds a turn, even if its command is refused.
-abbrev pub with_line : Ran → Line → Ran
-with_line ran (Api at operation body) = record ran { history = requested ran.history at (asked operation body) }
-with_line ran (Raw at by what long) = with_turn ran (raw_turn at by what)
-with_line ran (Worker at name kind from) = record ran { workers = ran.workers ++ hired name kind from ∷ [] }
-with_line ran (Step at by) = with_step ran at by (employed_by by ran.workers)
-with_line ran (Stop at by) = with_stop ran by (employed_by by ran.workers)
-with_line ran (Hand at by key) = with_handed ran at by key (employed_by by ran.workers)
+-- The run after one more line; a `raw` line adds a turn even if its command is refused.
+abbrev pub with_line : (ran : Ran) (line : Line) → Ran
+with_line ran (Api moment operation body) = record ran { history = requested ran.history moment (asked operation body) }
+with_line ran (Raw moment actor command long) = with_turn ran (raw_turn moment actor command)
+with_line ran (Worker moment name kind origin) = record ran { workers = ran.workers ++ hired name kind origin ∷ [] }
+with_line ran (Step moment actor) = with_step ran moment actor (employed_by actor ran.workers)
+with_line ran (Stop moment actor) = with_stop ran actor (employed_by actor ran.workers)
+with_line ran (Hand moment actor key) = with_handed ran moment actor key (employed_by actor ran.workers)
 
--- The text that a line adds to the output of the run `ran`, which is the run before the line.
-abbrev pub output_of : Ran → Line → List ℕ
-output_of ran (Api at operation body) = request_output ran.history at (asked operation body)
-output_of ran (Raw at by what long) = raw_output ran.history (raw_turn at by what) long
-output_of ran (Worker at name kind from) = codes "worker " ++ (decimal (actor_at (length ran.workers)) ++ 10 ∷ [])
-output_of ran (Step at by) = step_output ran at by (employed_by by ran.workers)
-output_of ran (Stop at by) = stop_output (employed_by by ran.workers)
-output_of ran (Hand at by key) = hand_output ran.history at by (release_by key (employed_by by ran.workers))
+-- The text that a line adds to the output; `ran` is the run before it.
+abbrev pub output_of : (ran : Ran) (line : Line) → List ℕ
+output_of ran (Api moment operation body) = request_output ran.history moment (asked operation body)
+output_of ran (Raw moment actor command long) = raw_output ran.history (raw_turn moment actor command) long
+output_of ran (Worker moment name kind origin) = codes "worker " ++ (decimal (actor_at (length ran.workers)) ++ 10 ∷ [])
+output_of ran (Step moment actor) = step_output ran moment actor (employed_by actor ran.workers)
+output_of ran (Stop moment actor) = stop_output (employed_by actor ran.workers)
+output_of ran (Hand moment actor key) =
+    hand_output ran.history moment actor (release_by key (employed_by actor ran.workers))
 
--- The run `ran` continued with the lines, one after another.
-abbrev pub with_schedule : Ran → List Line → Ran
+-- The run continued with the lines, in order.
+abbrev pub with_schedule : (ran : Ran) (ls : List Line) → Ran
 with_schedule ran [] = ran
 with_schedule ran (l ∷ ls) = with_schedule (with_line ran l) ls
 
--- The output of the lines, one after another, if `ran` is the run before the first line.
-abbrev pub outputs : Ran → List Line → List ℕ
+-- The output of the lines; `ran` is the run before the first of them.
+abbrev pub outputs : (ran : Ran) (ls : List Line) → List ℕ
 outputs ran [] = []
 outputs ran (l ∷ ls) = output_of ran l ++ outputs (with_line ran l) ls

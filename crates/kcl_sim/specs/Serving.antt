@@ -1,5 +1,4 @@
--- What is true of each worker of a run and of its hand-offs: the processors are called for the given reads of their
--- tenures, and what was given before a hand-off freed its row isn't read again.
+-- What holds for each worker and its hand-offs: calls match given reads, and nothing given is read again.
 use Rattle.std.specs.Prelude.{◌≡◌, ℕ, List, slice_get, Some}
 use Rattle.std.specs.List.{AllByRecursion}
 use Rattle.kds_defs.specs.declared.command.Turn.{Turn}
@@ -9,20 +8,17 @@ use Rattle.kcl_hand.specs.Twice.{IsHandedOffIfFreed, IsNeverReadAgain}
 use Rattle.kcl_sim.specs.Output.{Ran}
 use Rattle.kcl_sim.specs.Workers.{Employed, actor_at}
 
--- For each worker and each of its hand-offs, the processors are called for the given reads of their tenures in the
--- run's history (`joint.AreAllServed`).
-abbrev pub AreAllServed : Ran → Type 0
+-- For each worker and its hand-offs, the processors are called for the given reads of their tenures.
+abbrev pub AreAllServed : (ran : Ran) → Type 0
 AreAllServed ran = (index : ℕ) (e : Employed) → slice_get ran.workers index ≡ Some e
     → joint.AreAllServed (actor_at index) ran.history e.made e.past
 
--- For each hand-off that has freed its row: every batch that the hand-off's processor was handed is given. If the row
--- still exists, every record that was given in the hand-off's tenure is at or below the row's checkpoint.
-abbrev pub AreHandedOff : Ran → Type 0
+-- If a hand-off freed its row, all handed to its processor is given, at or below any remaining row's checkpoint.
+abbrev pub AreHandedOff : (ran : Ran) → Type 0
 AreHandedOff ran = (index : ℕ) (e : Employed) → slice_get ran.workers index ≡ Some e
     → AllByRecursion (IsHandedOffIfFreed (actor_at index) ran.history) (hands_after e.made e.past)
 
--- For each hand-off that has freed its row in the run `ran`: a tenure of the same key that begins right after the run
--- in the history `h` reads no record that was given in the hand-off's tenure.
-abbrev pub AreNeverReadAgain : List Turn → Ran → Type 0
+-- A tenure begun in `h` right after the run reads nothing given in a hand-off of its key that freed its row.
+abbrev pub AreNeverReadAgain : (h : List Turn) (ran : Ran) → Type 0
 AreNeverReadAgain h ran = (index : ℕ) (e : Employed) → slice_get ran.workers index ≡ Some e
     → AllByRecursion (IsNeverReadAgain (actor_at index) h ran.history) (hands_after e.made e.past)

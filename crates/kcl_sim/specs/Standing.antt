@@ -1,4 +1,4 @@
--- A run as callers see it (`SimValue`), the run of lines that it stands for (`Ran`), and what a line or a step changes.
+-- A run as callers see it, the run of lines that it stands for, and what a line or a step changes.
 use Rattle.std.specs.Prelude.{◌≡◌, ◌≤◌, ◌⊎◌, ℕ, nat_le, nat_lt, if◌then◌else◌, List, [], ◌∷◌, ◌++◌, length, slice_get}
 use Rattle.std.specs.Prelude.{slice_set, Bool, true, false, Option, Some, None}
 use Rattle.kds_defs.specs.declared.command.Turn.{Turn}
@@ -17,91 +17,79 @@ use Rattle.kcl_sim.specs.Keeping.{AddsText, if_wanted}
 use Rattle.kcl_sim.specs.Output.{Ran, command_output, output_of, part_of, raw_turn, with_line}
 use Rattle.kcl_sim.specs.Workers.{Employed, all_called, answered, command_at, index_of}
 
--- A worker as callers see it, with ready-made processors (`Stock`).
+-- A worker as callers see it, with ready-made processors.
 abbrev pub Stepped : Type 0
 Stepped = WorkerStanding Stock Kind
 
--- A run as callers see it: all its turns, the newest first, and its workers. `cleared_at` has the turns that were made
--- before the text gathered from the turns was last emptied. `unfinished` says whether a worker's step or a hand-off has
--- begun but not finished. It stays true if memory runs out in the step or hand-off.
+-- A run as callers see it; `cleared_at`: turns when the text was last emptied; `unfinished`: in a step or hand-off.
 pub record SimValue : Type 0 where
   pub history : List Turn
   pub cleared_at : List Turn
   pub workers : List Stepped
   pub unfinished : Bool
 
--- The run `s` with the turn added to its history.
-abbrev pub turned : SimValue → Turn → SimValue
+-- The run with one more turn.
+abbrev pub turned : (s : SimValue) (turn : Turn) → SimValue
 turned s turn = record s { history = turn ∷ s.history }
 
--- The worker `w` has no command that waits for its answer.
-abbrev pub IsFree : Stepped → Type 0
+-- No command of the worker waits for its answer.
+abbrev pub IsFree : (w : Stepped) → Type 0
 IsFree w = w.waiting ≡ None
 
--- The worker `w` stands for the record of `e`: `w` and `e` were made with the same name and settings, and their
--- processors ask for the same checkpoint after each batch. `w` stands for the worker's own events in the record.
+-- The worker stands for its own events in the trace, with the same settings and asks.
 pub record Employs (w : Stepped) (e : Employed) : Type 0 where
   pub made : w.made ≡ e.made
   pub kind : (batch : List Stored) → asked_of w.maker batch ≡ asked_of e.kind batch
   pub stands : StandsFor Calls w (worker_past e.past)
 
--- The two lists have the same length, and at each index the worker stands for the record (`Employs`).
-abbrev pub EmployAll : List Stepped → List Employed → Type 0
+-- The lists have the same length, and each worker stands for the trace at its index.
+abbrev pub EmployAll : (ws : List Stepped) (es : List Employed) → Type 0
 EmployAll [] [] = Unit {0}
 EmployAll (w ∷ ws) (e ∷ es) = Employs w e × EmployAll ws es
 EmployAll [] (e ∷ es) = ⊥
 EmployAll (w ∷ ws) [] = ⊥
 
--- `s` stands for the run `ran`: `s` has the history of `ran`, and the workers of `s` stand for those of `ran`. If
--- memory ran out in a worker's step or a hand-off (`unfinished`), nothing is claimed about the workers.
+-- The turns and workers are a run's; if a step or a hand-off is unfinished, nothing is claimed about the workers.
 pub record RunsSo (s : SimValue) (ran : Ran) : Type 0 where
   pub history : s.history ≡ ran.history
   pub workers : s.unfinished ≡ false → EmployAll s.workers ran.workers
 
 -- ---- What a line changes
 
--- The line was run: `ran` is the run before the line, `s` stands for the run after it, and no step or hand-off is
--- unfinished in `s`. If answers are wanted (`wanted`), the line's output was added to the output, which was `before`
--- and is now `after`.
-pub record GoesOn (wanted : Bool) (s : SimValue) (ran : Ran) (line : Line) (before after : List ℕ) : Type 0 where
+-- The line was run whole, and its output was added if answers are wanted.
+pub record GoesOn (wanted : Bool) (s : SimValue) (ran : Ran) (line : Line) (old new : List ℕ) : Type 0 where
   pub made : RunsSo s (with_line ran line)
-  pub wrote : after ≡ before ++ if_wanted wanted (output_of ran line)
+  pub wrote : new ≡ old ++ if_wanted wanted (output_of ran line)
   pub going : s.unfinished ≡ false
 
--- The line is run after `ran`, and what is to be written for it was added to the output, which was `before` and is now
--- `after`. If the Bool is true, the line's output is to be written. If the Bool is false, what the line's turns add to
--- the text of the history is to be written.
-abbrev pub IsTold : Bool → (List Turn → List ℕ) → Ran → Line → List ℕ → List ℕ → Type 0
-IsTold true text ran line before after = after ≡ before ++ output_of ran line
-IsTold false text ran line before after = AddsText (text ran.history) (text (with_line ran line).history) before after
+-- The line's output was added if wanted, otherwise what its turns add to the text of the history.
+abbrev pub IsTold : (is_wanted : Bool) (text : List Turn → List ℕ) (ran : Ran) (line : Line) (old new : List ℕ) →
+    Type 0
+IsTold true text ran line old new = new ≡ old ++ output_of ran line
+IsTold false text ran line old new = AddsText (text ran.history) (text (with_line ran line).history) old new
 
--- The line was run: `ran` is the run before the line, and `s` stands for the run after it. What is to be written for
--- the line was added to the output, which was `before` and is now `after` (`IsTold`). This is the line's output if
--- `wanted` is true, and otherwise what `text` gains by the line's turns.
+-- The line was run, and its output, or what `text` gains by its turns, was added.
 pub record Tells (wanted : Bool) (text : List Turn → List ℕ) (s : SimValue) (ran : Ran) (line : Line)
-    (before after : List ℕ) : Type 0 where
+    (old new : List ℕ) : Type 0 where
   pub made : RunsSo s (with_line ran line)
-  pub wrote : IsTold wanted text ran line before after
+  pub wrote : IsTold wanted text ran line old new
 
--- Memory ran out, and the line was run as a whole or not at all: `s` stands for `ran`, the run before the line, or for
--- the run after it.
-abbrev pub MayHaveRun : SimValue → Ran → Line → Type 0
+-- Memory ran out: the line was run whole or not at all.
+abbrev pub MayHaveRun : (s : SimValue) (ran : Ran) (line : Line) → Type 0
 MayHaveRun s ran line = RunsSo s ran ⊎ RunsSo s (with_line ran line)
 
--- Memory ran out in the middle of the line, which is a hand-off. The history of `s` is that of `ran` with the first
--- turns of the hand-off added, at most three and perhaps none. The hand-off is `unfinished` in `s`, so no further line
--- is run.
+-- Memory ran out in a hand-off line after at most three of its turns; no further line is run.
 pub record HasRunPart (s : SimValue) (ran : Ran) (line : Line) : Type 0 where
   pub ran_of_it : ℕ
   pub few : ran_of_it ≤ 3
   pub history : part_of ran_of_it ran line ≡ Some s.history
   pub unfinished : s.unfinished ≡ true
 
--- Memory ran out, and the line was run as a whole, not at all, or, if it is a hand-off, in part.
-abbrev pub MayHaveBroken : SimValue → Ran → Line → Type 0
+-- Memory ran out: the line was run whole, not at all, or, if a hand-off, in part.
+abbrev pub MayHaveBroken : (s : SimValue) (ran : Ran) (line : Line) → Type 0
 MayHaveBroken s ran line = MayHaveRun s ran line ⊎ HasRunPart s ran line
 
--- The history `new` is the history `old` with at most three turns added.
+-- The history grew by at most three turns.
 pub record GrowsFew (old new : List Turn) : Type 0 where
   pub more : List Turn
   pub few : length more ≤ 3
@@ -109,27 +97,24 @@ pub record GrowsFew (old new : List Turn) : Type 0 where
 
 -- ---- What a step changes
 
--- The index of the worker of the actor `by` among `count` workers. It is None if `by` isn't the number of one of these
--- workers.
-abbrev pub index_among : ℕ → ℕ → Option ℕ
-index_among by count =
-    if nat_le by MOST_ACTOR then None else (if nat_lt (index_of by) count then Some (index_of by) else None)
+-- The index of the actor's worker among `count` workers; None if the actor is no worker.
+abbrev pub index_among : (actor count : ℕ) → Option ℕ
+index_among actor count =
+    if nat_le actor MOST_ACTOR then None else (if nat_lt (index_of actor) count then Some (index_of actor) else None)
 
--- The worker `w` was made as the record `e` says. `w` stands for the worker's own events in `e`, followed by a command
--- that it gave at the moment `at`, which waits for its answer.
-pub record HasAsked (at : ℕ) (w : Stepped) (e : Employed) : Type 0 where
+-- `w` stands for the worker's own events in `e`'s trace and a command, given at `moment`, that waits for its answer.
+pub record HasAsked (moment : ℕ) (w : Stepped) (e : Employed) : Type 0 where
   pub made : w.made ≡ e.made
   pub kind : (batch : List Stored) → asked_of w.maker batch ≡ asked_of e.kind batch
-  pub stands : StandsFor Calls w (Gave_command at ∷ worker_past e.past)
+  pub stands : StandsFor Calls w (Gave_command moment ∷ worker_past e.past)
 
--- The worker `w` gave the command `what` at the moment `at`, and waits for the answer. After `w` took the answer that
--- this command gets after the history `h`, the worker is `v`, and no command of `v` waits.
-abbrev pub TookAnswer : ℕ → ℕ → Command → List Turn → Stepped → Stepped → Type 0
-TookAnswer at by what h w v =
-    IsFree v × ((e : Employed) → HasAsked at w e → Employs v (answered at (answer h (raw_turn at by what)) e))
+-- `w` took the answer to its waiting command `command`, sent after `h`, and became `v`.
+abbrev pub TookAnswer : (moment actor : ℕ) (command : Command) (h : List Turn) (w v : Stepped) → Type 0
+TookAnswer moment actor command h w v =
+    IsFree v × ((e : Employed) → HasAsked moment w e
+    → Employs v (answered moment (answer h (raw_turn moment actor command)) e))
 
--- `new` is the list `old` with the worker `is` in the place of the worker `was` at the index `index`, and `R` holds
--- between `was` and `is`.
+-- Only the worker at the index changed, and `R` holds between it before and after.
 pub record ChangedAt (index : ℕ) (R : Stepped → Stepped → Type 0) (old new : List Stepped) : Type 0 where
   pub was : Stepped
   pub stood : slice_get old index ≡ Some was
@@ -137,40 +122,34 @@ pub record ChangedAt (index : ℕ) (R : Stepped → Stepped → Type 0) (old new
   pub stands : new ≡ slice_set old index is
   pub related : R was is
 
--- The history after a step of the actor `by` at the moment `at`: `h` with the turn of the step's command added, if the
--- step gave a command.
-abbrev pub history_after : List Turn → ℕ → ℕ → Option Command → List Turn
-history_after h at by None = h
-history_after h at by (Some what) = raw_turn at by what ∷ h
+-- The history after a step: one more turn if the step gave a command.
+abbrev pub history_after : (h : List Turn) (moment actor : ℕ) (command : Option Command) → List Turn
+history_after h moment actor None = h
+history_after h moment actor (Some command) = raw_turn moment actor command ∷ h
 
--- The record of the worker `e` after a step at the moment `at`: the due calls were made, and then the command of the
--- step, if any, was answered.
-abbrev pub employed_after : List Turn → ℕ → ℕ → Option Command → Employed → Employed
-employed_after h at by None e = all_called e
-employed_after h at by (Some what) e = answered at (answer h (raw_turn at by what)) (all_called e)
+-- The worker's trace after a step: due calls, then the command, if any, and its answer.
+abbrev pub employed_after : (h : List Turn) (moment actor : ℕ) (command : Option Command) (e : Employed) → Employed
+employed_after h moment actor None e = all_called e
+employed_after h moment actor (Some command) e =
+    answered moment (answer h (raw_turn moment actor command)) (all_called e)
 
--- The worker `w` became `v` by a step at the moment `at`. All due calls were made, and then `what` was the next
--- command, or None if there was no next command. The worker took the answer that this command gets after the history
--- `h`. No command of `v` waits for its answer.
-abbrev pub MadeStep : ℕ → ℕ → Option Command → List Turn → Stepped → Stepped → Type 0
-MadeStep at by what h w v =
-    IsFree v × ((e : Employed) → Employs w e → (command_at at (all_called e) ≡ what)
-    × Employs v (employed_after h at by what e))
+-- `w` became `v` by a step: due calls, then the next command `command`, if any, and its answer after `h`.
+abbrev pub MadeStep : (moment actor : ℕ) (command : Option Command) (h : List Turn) (w v : Stepped) → Type 0
+MadeStep moment actor command h w v =
+    IsFree v × ((e : Employed) → Employs w e → (command_at moment (all_called e) ≡ command)
+    × Employs v (employed_after h moment actor command e))
 
--- The worker at the index `index` made a step at the moment `at`, and `what` is the command of this step, if there was
--- one. `old` and `new` are the run before and after the step. If answers are wanted (`wanted`), the output of the step
--- was added to the output, which was `before` and is now `after`.
-pub record StepsAt (wanted : Bool) (at by index : ℕ) (old new : SimValue) (before after : List ℕ) : Type 0 where
+-- The worker at `index` made a step, and the step's output was added if answers are wanted.
+pub record StepsAt (wanted : Bool) (moment actor index : ℕ) (old new : SimValue) (earlier after : List ℕ) : Type 0 where
   pub what : Option Command
-  pub history : new.history ≡ history_after old.history at by what
-  pub workers : ChangedAt index (MadeStep at by what old.history) old.workers new.workers
-  pub wrote : after ≡ before ++ if_wanted wanted (command_output old.history at by what)
+  pub history : new.history ≡ history_after old.history moment actor what
+  pub workers : ChangedAt index (MadeStep moment actor what old.history) old.workers new.workers
+  pub wrote : after ≡ earlier ++ if_wanted wanted (command_output old.history moment actor what)
 
--- Memory ran out in a step of the worker at the index `index`, after its command `what` became a turn. `old` and `new`
--- are the run before and after this turn.
-pub record TurnRan (at by index : ℕ) (old new : SimValue) : Type 0 where
+-- Memory ran out in a step after its command became a turn.
+pub record TurnRan (moment actor index : ℕ) (old new : SimValue) : Type 0 where
   pub was : Stepped
   pub stood : slice_get old.workers index ≡ Some was
   pub what : Command
-  pub next : (e : Employed) → Employs was e → command_at at (all_called e) ≡ Some what
-  pub history : new.history ≡ (raw_turn at by what ∷ old.history)
+  pub next : (e : Employed) → Employs was e → command_at moment (all_called e) ≡ Some what
+  pub history : new.history ≡ (raw_turn moment actor what ∷ old.history)

@@ -2,9 +2,8 @@
 //! added whole or not at all. A turn is a command with its sender and its time. A survey is the lease command that
 //! lists the shards and the rows of the lease table.
 ghost use Rattle.std.specs.Prelude.{◌≡◌, [], ◌∷◌, ◌++◌, codes, decimal, take, vec_len, true, false, IsUtf8, OnOk};
-ghost use Rattle.std.specs.Prelude.{OnErr};
-ghost use Rattle.kds_defs.specs.Kinds.{is_lease_answer};
-ghost use Rattle.kds_reply.specs.Replies.{fault_reply};
+ghost use Rattle.kds_defs.specs.Kinds.{is_lease_answer, is_service_answer};
+ghost use Rattle.kds_reply.specs.Replies.{fault_reply, reply_of};
 ghost use Rattle.kcl_script_fields.specs.Answers.{answer_text};
 ghost use Rattle.kcl_sim.specs.Output.{AddsWhole, body_part, left_text, printed};
 
@@ -13,7 +12,7 @@ use kcl_script_fields::fill_answer;
 use kds_base::{Memory, Octets, write_u64};
 use kds_defs::Answer;
 use kds_json_members::Fault;
-use kds_reply::fault;
+use kds_reply::{add_reply, fault};
 use std::alloc::Global;
 
 /// Adds a status in decimal, and a space if the body isn't empty. If memory runs out, a prefix of this text may have
@@ -28,34 +27,63 @@ fn fill_head(alloc: Global, status: u16, body: &[u8], line: &mut Octets) -> Resu
     line.extend(b" ".as_slice())
 }
 
-/// Adds a line: `head`, `body`, and a line feed. If memory runs out, a prefix of the line may have been added.
-fn add_line(text: &mut Vec<u8>, head: &[u8], body: &[u8]) -> Result<(), Memory>
+/// Returns the status of the reply to a request (`reply_of`).
+fn status_of(answer: &Answer) -> u16
+    ensures { result ≡ (reply_of answer.now).0 }
+{
+    match answer {
+        Ok(_) => 200,
+        Err(_) => 400,
+    }
+}
+
+/// Adds a space and the body of the reply to a request, or nothing if the body is empty. If memory runs out, a prefix
+/// of this text may have been added.
+fn add_body(alloc: Global, answer: &Answer, text: &mut Vec<u8>) -> Result<(), Memory>
+    requires { is_service_answer answer.now ≡ true }
     ensures front { take (vec_len text.old) text.new.items ≡ text.old.items }
-    ensures ok { OnOk result (text.new.items ≡ text.old.items ++ ((head.now ++ body.now) ++ 10 ∷ [])) }
+    ensures ok { OnOk result (text.new.items ≡ text.old.items ++ body_part (reply_of answer.now).1) }
+{
+    let status_end = text.len();
+    text.push(b' ')?;
+    let body_start = text.len();
+    add_reply(alloc, answer, text)?;
+    if text.len() == body_start {
+        text.truncate(status_end);
+    }
+    Ok(())
+}
+
+/// Adds a line: `head`, a space and the body of the reply to a request, and a line feed. If memory runs out, a prefix
+/// of the line may have been added.
+fn add_line(alloc: Global, head: &[u8], answer: &Answer, text: &mut Vec<u8>) -> Result<(), Memory>
+    requires { is_service_answer answer.now ≡ true }
+    ensures front { take (vec_len text.old) text.new.items ≡ text.old.items }
+    ensures ok { OnOk result
+        (text.new.items ≡ text.old.items ++ ((head.now ++ body_part (reply_of answer.now).1) ++ 10 ∷ [])) }
 {
     text.extend_from_slice(head)?;
-    text.extend_from_slice(body)?;
+    add_body(alloc, answer, text)?;
     text.push(b'\n')?;
     Ok(())
 }
 
-/// Adds a line with a status and a body. The body may be long, so it is copied only once, directly to the output. The
-/// buffer `line` holds only the status. If memory runs out, nothing is added.
-pub fn print(
+/// Adds a line with the status and the body of the reply to a request. The body may be long, so it is written directly
+/// to the output. The buffer `line` holds only the status. If memory runs out, nothing is added.
+pub fn print_reply(
     alloc: Global,
-    status: u16,
-    body: &[u8],
+    answer: &Answer,
     line: &mut Octets,
     to: &mut Octets,
 ) -> Result<(), Memory>
-    ensures ok { OnOk result (to.new ≡ to.old ++ printed (status, body.now)) }
-    ensures err { OnErr result (to.new ≡ to.old) }
+    requires { is_service_answer answer.now ≡ true }
+    ensures { AddsWhole result to.old to.new (printed (reply_of answer.now)) }
 {
     line.clear();
-    fill_head(alloc, status, body, line)?;
+    write_u64(alloc, status_of(answer) as u64, line)?;
     let mut text = to.take_vec()?;
     let before = text.len();
-    let added = add_line(&mut text, line.as_slice(), body);
+    let added = add_line(alloc, line.as_slice(), answer, &mut text);
     if added.is_err() {
         text.truncate(before);
     }
@@ -75,7 +103,11 @@ pub fn print_fault(
     ensures { AddsWhole result to.old to.new (printed (fault_reply problem.now)) }
 {
     let (status, body) = fault(alloc, problem)?;
-    print(alloc, status, body.as_slice(), line, to)
+    line.clear();
+    fill_head(alloc, status, body.as_slice(), line)?;
+    line.extend(body.as_slice())?;
+    line.extend(b"\n".as_slice())?;
+    to.extend(line.as_slice())
 }
 
 /// Adds a line with the text of the answer to a lease command. `long` matters only for a survey: if `long` is true, the

@@ -153,7 +153,7 @@ impl<M: Machine, K: Keep> Sim<M, K> {
         requires early { at < 2 ^ 62 }
         requires unfinished { self.old.unfinished ≡ true }
         requires there { index < length self.old.workers }
-        requires free { IfSome (slice_get self.old.workers index) IsFree }
+        requires unasked { IfSome (slice_get self.old.workers index) IsFree }
         ensures unfinished { self.new.unfinished ≡ true }
         ensures cleared_at { OnOk result (self.new.cleared_at ≡ self.old.cleared_at) }
         ensures steps { OnOk result (StepsAt K.wanted at by index self.old self.new to.old to.new) }

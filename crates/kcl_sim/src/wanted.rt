@@ -11,33 +11,15 @@ ghost use Rattle.kcl_sim.specs.Output.{AddsWhole, left_text, printed};
 
 use crate::keep::Keep;
 use crate::print::{
-    print, print_answered, print_fault, print_left, print_part, print_raw, print_word, print_worker,
+    print_answered, print_fault, print_left, print_part, print_raw, print_reply, print_word,
+    print_worker,
 };
 use kcl_hand::Left;
 use kcl_script_fields::print_command;
 use kds_base::{Memory, Octets};
 use kds_defs::{Answer, Command};
 use kds_json_members::Fault;
-use kds_reply::add_reply;
 use std::alloc::Global;
-
-/// Adds a line with the status and the body of the reply to a request. The body is made in the buffer `line`, which
-/// keeps its memory from reply to reply. If memory runs out, nothing is added.
-fn print_reply(
-    alloc: Global,
-    answer: &Answer,
-    line: &mut Octets,
-    to: &mut Octets,
-) -> Result<(), Memory>
-    requires { is_service_answer answer.now ≡ true }
-    ensures { AddsWhole result to.old to.new (printed (reply_of answer.now)) }
-{
-    line.clear();
-    let mut body = line.take_vec()?;
-    let status = add_reply(alloc, answer, &mut body);
-    *line = Octets::unshared(body);
-    print(alloc, status?, line.as_slice(), &mut Octets::new(alloc), to)
-}
 
 /// Adds a line with the status and the body of the reply to a request, if `K` wants answers. If memory runs out,
 /// nothing is added.

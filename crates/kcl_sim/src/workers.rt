@@ -15,7 +15,7 @@ use kds_defs::{Answer, Command, let_go};
 /// Makes all processor calls of the worker that are due, one after another.
 pub fn call_all(worker: &mut Worker<Stock, Kind>) -> Result<(), Memory>
     requires { worker.old.waiting ≡ None }
-    ensures free { worker.new.waiting ≡ None }
+    ensures unasked { worker.new.waiting ≡ None }
     ensures none_due { OnOk result (due_in worker.new.consumers ≡ None) }
     ensures called { OnOk result ((e : Employed) → Employs worker.old e → Employs worker.new (all_called e)) }
 {
@@ -28,14 +28,14 @@ pub fn call_all(worker: &mut Worker<Stock, Kind>) -> Result<(), Memory>
 /// Returns the worker's next command at the time `now`. If the worker was stopped and has nothing left to do, it is
 /// idle, and the result is `None`. Preconditions: no processor call is due, and the worker waits for no answer.
 pub fn next_command(worker: &mut Worker<Stock, Kind>, now: Moment) -> Option<Command>
-    requires free { worker.old.waiting ≡ None }
+    requires unasked { worker.old.waiting ≡ None }
     requires none_due { due_in worker.old.consumers ≡ None }
     ensures lawful { IfSome result IsLawfulCommand }
-    ensures own { IfSome result (λ what. is_service what ≡ false) }
-    ensures free { MatchOption result (worker.new.waiting ≡ None) (λ what. IsSome worker.new.waiting) }
+    ensures own { IfSome result (λ command. is_service command ≡ false) }
+    ensures unasked { MatchOption result (worker.new.waiting ≡ None) (λ command. IsSome worker.new.waiting) }
     ensures is { (e : Employed) → Employs worker.old e → result ≡ command_at now e }
     ensures stands { (e : Employed) → Employs worker.old e
-        → MatchOption result (Employs worker.new e) (λ what. HasAsked now worker.new e) }
+        → MatchOption result (Employs worker.new e) (λ command. HasAsked now worker.new e) }
 {
     if worker.idle() {
         None
@@ -53,7 +53,7 @@ fn drop_answer(left: NoRoom) -> Memory {
 /// Hands the worker the answer to its command. If memory runs out, the answer is dropped.
 pub fn absorb(worker: &mut Worker<Stock, Kind>, now: Moment, answer: Answer) -> Result<(), Memory>
     requires { IsSome worker.old.waiting }
-    ensures free { OnOk result (worker.new.waiting ≡ None) }
+    ensures unasked { OnOk result (worker.new.waiting ≡ None) }
     ensures stands { OnOk result ((e : Employed) → HasAsked now worker.old e
         → Employs worker.new (answered now answer e)) }
 {

@@ -10,7 +10,6 @@ use Rattle.kcl_journal.specs.declared.line.TheConstants.{VERSION}
 use Rattle.kcl_journal.specs.Entries.{entry_spelling}
 use Rattle.kcl_sim_scribe.specs.Added.{added_entries, entries_text, history_entries, told_by}
 
--- The lines of a journal with further lines added, the oldest first, are those of the journal and then these lines.
 behind : (lines : List Line) (log : Journal) → reverse (map told_by (with_lines lines log)) ≡ reverse (map told_by log)
     ++ map told_by lines
 behind [] log = sym (append-nil (reverse (map told_by log)))
@@ -19,10 +18,8 @@ behind (line ∷ lines) log =
     ∙ ap (λ ls. ls ++ map told_by lines) (reverse-append (told_by line ∷ []) (map told_by log))
     ∙ append_assoc (reverse (map told_by log)) (told_by line ∷ []) (map told_by lines)
 
--- The lines of a history with one more turn are those of the history, and then those that the turn adds.
 pub grows : (h : List Turn) (turn : Turn) → history_entries (turn ∷ h) ≡ history_entries h ++ added_entries h turn
 grows h turn = behind (lines_of (decision (journal h) (clock (turn ∷ h)) turn)) (journal h)
 
--- The text of two lists of lines is the text of the first list, and then that of the second.
 pub text_grows : (xs ys : List EntryLine) → entries_text (xs ++ ys) ≡ entries_text xs ++ entries_text ys
 text_grows xs ys = flat_map-append (λ (line : EntryLine). entry_spelling VERSION line ++ 10 ∷ []) xs ys

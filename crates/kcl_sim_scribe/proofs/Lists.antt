@@ -1,4 +1,4 @@
--- General facts about lists: what a search finds, what a filter keeps, and what a change of each element gives.
+-- General facts about lists: search, filter and map.
 use Rattle.std.proofs.Common.{◌≡◌, ℕ, zero, suc, ◌+◌, ◌≤◌, List, [], ◌∷◌, ◌++◌, length, map, take, drop, Bool, true}
 use Rattle.std.proofs.Common.{Some, refl, ap, ◌∙◌, arith, inl, inr, subst}
 use Rattle.std.proofs.lemmas.Bool.{cases_Bool}
@@ -7,7 +7,6 @@ use Rattle.std.specs.List.{AllByRecursion, filter, find}
 use Rattle.std.specs.Prelude.{◌&&◌}
 use Rattle.kds_defs.specs.Streams.{numbers_from}
 
--- What is true of each element of a list is true of the element that a search finds.
 pub found_is : {A : Type 0} (P : A → Type 0) (p : A → Bool) (xs : List A) (x : A) → AllByRecursion P xs
     → find p xs ≡ Some x → P x
 found_is P p [] x all h = absurd (cc)
@@ -16,27 +15,21 @@ found_is P p (y ∷ ys) x all h = elim (cases_Bool (p y)) [
   | inr there ↦ let e : find p ys ≡ Some x = rw there at h in found_is P p ys x all.1 e
 ]
 
--- Let `P` be true of each element of a list, and let `Q` be true of `f x` wherever `P` is true of `x`. Then `Q` is true
--- of each element of the list changed by `f`.
 pub mapped : {A B : Type 0} (P : A → Type 0) (Q : B → Type 0) (f : A → B) (xs : List A) → ((x : A) → P x → Q (f x))
     → AllByRecursion P xs
     → AllByRecursion Q (map f xs)
 mapped P Q f [] each all = tt
 mapped P Q f (x ∷ xs) each all = (each x all.0, mapped P Q f xs each all.1)
 
--- If `Q` is true of each element of the list changed by `f`, then `Q` is true of `f x` for each element `x`.
 pub unmapped : {A B : Type 0} (Q : B → Type 0) (f : A → B) (xs : List A) → AllByRecursion Q (map f xs)
     → AllByRecursion (λ x. Q (f x)) xs
 unmapped Q f [] all = tt
 unmapped Q f (x ∷ xs) all = (all.0, unmapped Q f xs all.1)
 
--- Keeping the elements that pass two tests is the same as keeping those that pass the first, and then those of them
--- that pass the second.
 pub both_tests : {A : Type 0} (p q : A → Bool) (xs : List A) → filter (λ x. q x && p x) xs ≡ filter q (filter p xs)
 both_tests p q [] = refl
 both_tests p q (x ∷ xs) = grind (arith, both_tests p q xs)
 
--- If two tests give the same result for each element of a list, they keep the same elements.
 pub same_kept : {A : Type 0} (p q : A → Bool) (xs : List A) → AllByRecursion (λ x. p x ≡ q x) xs
     → filter p xs ≡ filter q xs
 same_kept p q [] all = refl
@@ -44,12 +37,10 @@ same_kept p q (x ∷ xs) all = grind (arith, all.0, same_kept p q xs all.1)
 
 -- ---- Numbers
 
--- Each of the `count` numbers from `n` on is at most `most`, if `n` + `count` is at most `most` + 1.
 pub up_to : (n count most : ℕ) → n + count ≤ most + 1 → AllByRecursion (λ s. s ≤ most) (numbers_from n count)
 up_to n zero most h = tt
 up_to n (suc count) most h = (omega arith, up_to (n + 1) count most (omega arith))
 
--- One more number after `count` numbers from `n` on is `n` + `count`.
 pub one_more : (n count : ℕ) → numbers_from n (suc count) ≡ numbers_from n count ++ (n + count) ∷ []
 one_more n zero = let e : n ≡ n + 0 = omega arith in ap (λ m. m ∷ []) e
 one_more n (suc count) =
@@ -58,12 +49,10 @@ one_more n (suc count) =
 
 -- ---- A loop over a list
 
--- If the elements before the index `i` were changed by `f`, and `i` isn't below the length, then all were.
 pub all_done : {A : Type 0} (f : A → A) (xs : List A) (i : ℕ) → length xs ≤ i
     → map f (take i xs) ++ drop i xs ≡ map f xs
 all_done f xs i h = (λ j. map f (take_all i xs h j) ++ drop_all i xs h j) ∙ append-nil (map f xs)
 
--- A filter that every element passes keeps all.
 pub all_kept : {A : Type 0} (xs : List A) → filter (λ x. true) xs ≡ xs
 all_kept [] = refl
 all_kept (x ∷ xs) = ap (λ ys. x ∷ ys) (all_kept xs)

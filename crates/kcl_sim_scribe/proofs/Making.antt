@@ -1,4 +1,4 @@
--- After CreateStream, what the scribe knows of the streams is what the journal says, with the new stream at the end.
+-- After CreateStream the scribe knows the streams of the journal, with the new one at the end.
 use Rattle.std.proofs.Common.{◌≡◌, ℕ, suc, ◌+◌, ◌^◌, ◌/◌, ◌≤◌, List, [], ◌∷◌, ◌++◌, length, Bool, false, refl, sym, ap}
 use Rattle.std.proofs.Common.{◌∙◌, arith, subst}
 use Rattle.std.proofs.lemmas.Bool.Decides.{nat_tests}
@@ -18,24 +18,22 @@ use Rattle.kcl_sim_scribe.specs.Known.{IsKnown, Known, Knows, new_known}
 use Rattle.kcl_sim_scribe.proofs.Lists.{one_more, same_kept, unmapped, up_to}
 use Rattle.kcl_sim_scribe.proofs.Readings.{live_below, no_of}
 
--- A stream that is made with `count` shards has `count` shards.
 pub length_made : (count start : ℕ) → length (made_shards count start) ≡ count
 length_made count start = length_first 0 start (uniform count) ∙ length_uniform (2 ^ 128 / count) 0 count
 
 above : (m n : ℕ) → n ≤ m → (m + 1 == n) ≡ false
 above m n below = grind (arith, nat_tests, below)
 
-module _ (log : Journal) (c by count : ℕ) (name : List ℕ) where
-  -- The line of the CreateStream, at the clock `c` by the actor `by`. The stream gets the next number.
+module _ (log : Journal) (c actor count : ℕ) (name : List ℕ) where
+  -- The line of CreateStream, which gives the stream the next number.
   abbrev line : Line
-  line = plain_line c by (entry.Made (made_count log + 1) name count)
+  line = plain_line c actor (entry.Made (made_count log + 1) name count)
 
   old_tests : (m : ℕ) (ns : List ℕ) → AllByRecursion (λ s. s ≤ m) ns
       → AllByRecursion (λ s. ((m + 1 == s) || is_live log s) ≡ is_live log s) ns
   old_tests m [] all = tt
   old_tests m (n ∷ ns) all = (rw (above m n all.0) refl, old_tests m ns all.1)
 
-  -- After this line, the live streams are those before and the new one.
   live_made : live_streams (line ∷ log) ≡ live_streams log ++ (made_count log + 1) ∷ []
   live_made =
       let m = made_count log in
@@ -49,14 +47,11 @@ module _ (log : Journal) (c by count : ℕ) (name : List ℕ) where
       ∙ (λ i. same_kept p (is_live log) (numbers_from 1 m) (old_tests m (numbers_from 1 m) (up_to 1 m m (omega arith)))
       i ++ new i)
 
-  -- What the scribe knows of an older stream is still what the journal says.
   old_known : (v : Known) → v.no ≤ made_count log → IsKnown log v → IsKnown (line ∷ log) v
   old_known v below k =
       let other = above (made_count log) v.no below in
       record { named = rw other k.named; next = omega (arith, k.next); many = rw other k.many; left = k.left }
 
-  -- Suppose that the scribe knows the streams before the line, and that the new stream has at least one shard. Then
-  -- what the scribe knows, with the new stream added, is correct after the line.
   pub knows_made : (vs : List Known) → 1 ≤ count → Knows log (made_count log) vs
       → Knows (line ∷ log) (made_count log + 1) (vs ++ new_known (made_count log + 1) name count ∷ [])
   knows_made vs some k =
@@ -76,5 +71,5 @@ module _ (log : Journal) (c by count : ℕ) (name : List ℕ) where
         live = live_made ∙ ap (λ ns. ns ++ (m + 1) ∷ []) k.live
             ∙ sym (map_push no_of vs (new_known (m + 1) name count));
         known = all_append (IsKnown (line ∷ log)) vs (new_known (m + 1) name count ∷ []) old (is_new, tt);
-        unmade = λ s above. let before = k.unmade s (omega (arith, above)) in omega arith;
+        unmade = λ s above. let earlier = k.unmade s (omega (arith, above)) in omega arith;
       }

@@ -1,5 +1,4 @@
--- Let lines make no stream, and let their entries change what the scribe knows of the streams. Then this is what the
--- journal with these lines says.
+-- If lines make no stream, changing the known streams by their entries agrees with the journal.
 use Rattle.std.proofs.Common.{◌≡◌, ℕ, ◌+◌, ◌<◌, ◌≤◌, List, [], ◌∷◌, length, map, Bool, true, false, refl, sym, ap, ◌∙◌}
 use Rattle.std.proofs.Common.{arith, inl, inr, subst}
 use Rattle.std.proofs.lemmas.Bool.{cases_Bool, eqb-true, ne_eqb}
@@ -19,46 +18,41 @@ use Rattle.kds_defs.proofs.Counted.{length_split, length_merged}
 use Rattle.kcl_sim_scribe.specs.Known.{IsKnown, Known, Knows, changed, changed_by, is_gone, known_as, renumbered}
 use Rattle.kcl_sim_scribe.proofs.Lists.{all_kept, both_tests, mapped, same_kept, up_to}
 
--- The number of the stream `v`.
+-- The stream's number.
 abbrev pub no_of : Known → ℕ
 no_of v = v.no
 
 -- ---- The stream with a name
 
--- Among the known streams, a search for a name by the names in the journal finds the same stream as a search by the
--- names that the scribe knows.
 named_among : (log : Journal) (name : List ℕ) (vs : List Known) → AllByRecursion (IsKnown log) vs
     → find (λ s. same_name (name_of log s) name) (map no_of vs) ≡ option_map no_of (known_as name vs)
 named_among log name [] all = refl
 named_among log name (v ∷ vs) all = grind (arith, all.0.named, named_among log name vs all.1)
 
--- The live stream with a name in the journal is the one that the scribe finds by this name.
+-- The scribe finds by a name the stream that the journal has under it.
 pub named_is : (log : Journal) (made : ℕ) (vs : List Known) (name : List ℕ) → Knows log made vs
     → stream_named log name ≡ option_map no_of (known_as name vs)
 named_is log made vs name k = ap (find (λ s. same_name (name_of log s) name)) k.live ∙ named_among log name vs k.known
 
--- Each live stream has a number that isn't above the number of streams that were made.
 pub live_below : (log : Journal) → AllByRecursion (λ s. s ≤ made_count log) (live_streams log)
 live_below log = all_filter (λ s. s ≤ made_count log) (is_live log) (numbers_from 1 (made_count log))
     (up_to 1 (made_count log) (made_count log) (omega arith))
 
 -- ---- Lines that make no stream
 
--- The entry fits the journal. It makes no stream. If it is a put, a split or a merge, its stream was made, and it takes
--- the stream's next sequence number, which isn't the last number. The last new shard of a split or a merge has the
--- number that follows from how many shards the stream has.
+-- The entry makes no stream, and a put, split or merge takes the next numbers of a stream that was made.
 abbrev pub Fits : Journal → Entry → Type 0
 Fits log (entry.Made s name count) = ⊥
 Fits log (entry.Put s sh number hash bytes key_bytes) =
     (s ≤ made_count log) × ((number ≡ next_number log s) × (number < last_number))
-Fits log (entry.Split s sh at number low high) =
+Fits log (entry.Split s sh key_hash number low high) =
     (s ≤ made_count log) × (((number ≡ next_number log s) × (number < last_number))
     × (high ≡ length (shards log s) + 1))
 Fits log (entry.Merged s sh other number child) =
     (s ≤ made_count log) × (((number ≡ next_number log s) × (number < last_number)) × (child ≡ length (shards log s)))
 Fits log _ = Unit {0}
 
--- Each of the lines, in order, fits the journal with the lines before it added (`Fits`).
+-- Each line fits the journal with the lines before it.
 abbrev pub FitAll : Journal → List Line → Type 0
 FitAll log [] = Unit {0}
 FitAll log (line ∷ lines) = Fits log line.what × FitAll (line ∷ log) lines
@@ -82,14 +76,13 @@ other_stream s n m a b = ne_eqb s n (λ e. absurd (omega arith))
 
 none_drawn : (log : Journal) (e : Entry) (n : ℕ) → Fits log e → made_count log < n → draws e n ≡ 0
 none_drawn log (entry.Put s sh q hash bytes key_bytes) n f h = rw (other_stream s n (made_count log) f.0 h) refl
-none_drawn log (entry.Split s sh at q low high) n f h = rw (other_stream s n (made_count log) f.0 h) refl
+none_drawn log (entry.Split s sh key_hash q low high) n f h = rw (other_stream s n (made_count log) f.0 h) refl
 none_drawn log (entry.Merged s sh other q child) n f h = rw (other_stream s n (made_count log) f.0 h) refl
 none_drawn log _ n f h = refl
 
 -- ---- A stream that the scribe knows
 
--- After an entry, `w` is correct for the stream that the scribe knew as `v`: it has the same number and name, and its
--- last sequence number and last shard are those after the entry. A further sequence number is left.
+-- `w` is what the scribe should know after the entry of the stream that it knew as `v`.
 record Kept (log : Journal) (line : Line) (e : Entry) (v w : Known) : Type 0 where
   same : w.no ≡ v.no
   name : w.name ≡ v.name
@@ -97,8 +90,6 @@ record Kept (log : Journal) (line : Line) (e : Entry) (v w : Known) : Type 0 whe
   many : (start : ℕ) → length (shards_after line e v.no start (shards log v.no)) ≡ w.shard + 1
   left : w.drawn < last_number
 
--- If the entry takes no sequence number of the stream and leaves its shards as they are, `v` itself is still correct
--- after the entry.
 as_before : (log : Journal) (line : Line) (e : Entry) (v : Known) → IsKnown log v → draws e v.no ≡ 0
     → ((start : ℕ) → shards_after line e v.no start (shards log v.no) ≡ shards log v.no) → Kept log line e v v
 as_before log line e v k none shards_same = record {
@@ -109,9 +100,6 @@ as_before log line e v k none shards_same = record {
   left = k.left;
 }
 
--- Suppose that the entry takes the sequence number `q` of the stream `s` and that the last shard of `s` is then `last`.
--- If `v` is the stream `s`, then `v` with these two numbers is correct after the entry. Otherwise `v` itself is
--- correct.
 drawn_kept : (log : Journal) (line : Line) (e : Entry) (s q last : ℕ) (v : Known) → IsKnown log v
     → q ≡ next_number log s → q < last_number
     → draws e v.no ≡ (if s == v.no then 1 else 0)
@@ -123,25 +111,23 @@ drawn_kept log line e s q last v k drawn left draws_is its_shards same_shards = 
   | inl here ↦
       let is : s ≡ v.no = eqb-true s v.no here in
       let one : draws e v.no ≡ 1 = draws_is ∙ rw here refl in
-      let from : q ≡ next_number log v.no = drawn ∙ ap (next_number log) is in
+      let is_from : q ≡ next_number log v.no = drawn ∙ ap (next_number log) is in
       let next : draws e v.no + next_number log v.no ≡ q + 1 = omega arith in
       rw here (record { same = refl; name = refl; next = next; many = its_shards is here; left = left })
   | inr other ↦ rw other (as_before log line e v k (draws_is ∙ rw other refl) (same_shards other))
 ]
 
--- If an entry fits the journal, the stream `v` with the numbers that the entry leaves (`renumbered`) is correct after
--- this entry.
 entry_kept : (log : Journal) (line : Line) (e : Entry) (v : Known) → Fits log e → IsKnown log v
     → Kept log line e v (renumbered e v)
 entry_kept log line (entry.Made s name count) v f k = absurd f
 entry_kept log line (entry.Put s sh q hash bytes key_bytes) v f k =
     drawn_kept log line (entry.Put s sh q hash bytes key_bytes) s q v.shard v k f.1.0 f.1.1 refl (λ is here start.
     k.many) (λ other start. refl)
-entry_kept log line (entry.Split s sh at q low high) v f k =
-    drawn_kept log line (entry.Split s sh at q low high) s q high v k f.1.0.0 f.1.0.1 refl
+entry_kept log line (entry.Split s sh key_hash q low high) v f k =
+    drawn_kept log line (entry.Split s sh key_hash q low high) s q high v k f.1.0.0 f.1.0.1 refl
     (λ is here start.
     let last : high ≡ length (shards log v.no) + 1 = f.1.1 ∙ ap (λ n. length (shards log n) + 1) is in
-    rw here (length_split sh at start (closing_of line q) (shards log v.no) ∙ omega arith))
+    rw here (length_split sh key_hash start (closing_of line q) (shards log v.no) ∙ omega arith))
     (λ other start. rw other refl)
 entry_kept log line (entry.Merged s sh other_sh q child) v f k =
     drawn_kept log line (entry.Merged s sh other_sh q child) s q child v k f.1.0.0 f.1.0.1 refl
@@ -151,8 +137,6 @@ entry_kept log line (entry.Merged s sh other_sh q child) v f k =
     (λ other start. rw other refl)
 entry_kept log line e v f k = as_before log line e v k refl (λ start. refl)
 
--- If a line fits the journal, what the scribe knows of the stream `v`, changed by the line, is what the journal with
--- the line says (`IsKnown`).
 known_after : (log : Journal) (line : Line) (v : Known) → Fits log line.what → IsKnown log v
     → IsKnown (line ∷ log) (renumbered line.what v)
 known_after log line v f k =
@@ -168,24 +152,20 @@ known_after log line v f k =
 
 -- ---- The live streams
 
--- An entry changes no stream's number.
 same_no : (log : Journal) (line : Line) (e : Entry) (v : Known) → Fits log e → IsKnown log v
     → (renumbered e v).no ≡ v.no
 same_no log line e v f k = (entry_kept log line e v f k).same
 
--- The numbers of the streams, without that of a deleted one, are the numbers of the changed streams.
 gone_among : (log : Journal) (line : Line) (e : Entry) (vs : List Known) → Fits log e → AllByRecursion (IsKnown log) vs
     → filter (λ s. not (is_gone e s)) (map no_of vs) ≡ map no_of (changed e vs)
 gone_among log line e [] f all = refl
 gone_among log line e (v ∷ vs) f all = grind (arith, same_no log line e v f all.0, gone_among log line e vs f all.1)
 
--- After an entry that fits the journal, a stream is live exactly if it was live before and the entry didn't delete it.
 agree : (log : Journal) (e : Entry) (ns : List ℕ) → Fits log e
     → AllByRecursion (λ s. is_live_after e s (is_live log s) ≡ (not (is_gone e s) && is_live log s)) ns
 agree log e [] f = tt
 agree log e (n ∷ ns) f = (lives log e n (is_live log n) f, agree log e ns f)
 
--- After a line that fits the journal, the live streams are those that the scribe knows, changed by the line.
 live_after : (log : Journal) (line : Line) (made : ℕ) (vs : List Known) → Fits log line.what → Knows log made vs
     → live_streams (line ∷ log) ≡ map no_of (changed line.what vs)
 live_after log line made vs f k =
@@ -199,8 +179,6 @@ live_after log line made vs f k =
 
 -- ---- Several lines, one after another
 
--- If the scribe knows the streams and a line fits the journal, then the streams, changed by the line's entry, are
--- correct after the line.
 pub knows_after : (log : Journal) (line : Line) (made : ℕ) (vs : List Known) → Fits log line.what → Knows log made vs
     → Knows (line ∷ log) made (changed line.what vs)
 knows_after log line made vs f k = record {
@@ -215,15 +193,13 @@ knows_after log line made vs f k = record {
       omega (arith, none, k.unmade s above);
 }
 
--- If the scribe knows the streams and each of the lines fits the journal, then the streams, changed by the lines'
--- entries, are correct after the lines.
+-- Lines that fit keep the scribe's knowledge correct.
 pub knows_all : (log : Journal) (lines : List Line) (made : ℕ) (vs : List Known) → FitAll log lines → Knows log made vs
     → Knows (with_lines lines log) made (changed_by (map (λ (l : Line). l.what) lines) vs)
 knows_all log [] made vs f k = k
 knows_all log (line ∷ lines) made vs f k =
     knows_all (line ∷ log) lines made (changed line.what vs) f.1 (knows_after log line made vs f.0 k)
 
--- An entry that deletes no stream keeps each stream in the list.
 pub stay : (e : Entry) → ((s : ℕ) → e ≡ entry.Gone s → ⊥) → (vs : List Known)
     → filter (λ v. not (is_gone e v.no)) vs ≡ vs
 stay (entry.Gone s) h vs = absurd (h s refl)

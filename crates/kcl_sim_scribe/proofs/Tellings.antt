@@ -1,5 +1,4 @@
--- The lines that the scribe writes for an accepted command other than CreateStream are those that the command adds to
--- the journal.
+-- For each command but CreateStream, the scribe writes the lines that the command adds.
 use Rattle.std.proofs.Common.{◌≡◌, ℕ, suc, ◌+◌, ◌<◌, ◌≤◌, List, [], ◌∷◌, length, map, false, Option, Some, None, refl}
 use Rattle.std.proofs.Common.{sym, ap, ◌∙◌, arith, inl, inr, ◌⊎◌}
 use Rattle.std.proofs.lemmas.Bool.{cases_Bool, or_parts}
@@ -33,7 +32,6 @@ use Rattle.kcl_sim_scribe.proofs.Readings.{FitAll, live_below, named_is, no_of}
 
 -- ---- Numbers, and streams found by their names
 
--- If a search for a stream gives the number `s`, it found a stream, and this stream has the number `s`.
 one_of : (o : Option Known) (s : ℕ) → option_map no_of o ≡ Some s → (v : Known) × (o ≡ Some v) × (v.no ≡ s)
 one_of None s h = absurd (cc)
 one_of (Some v) s h = let e : v.no ≡ s = cc in (v, refl, e)
@@ -46,37 +44,36 @@ at_most n m h = grind (arith, nat_tests, h)
 
 -- ---- The lines of puts and of the steps of a scaling
 
--- The lines of a put of several items fit the journal, one after another, if the sequence numbers last for all of them.
-puts_fit : (log : Journal) (c by s : ℕ) (items : List NewItem) → s ≤ made_count log
-    → next_number log s + length (put_lines log c by s items) ≤ last_number
-    → FitAll log (put_lines log c by s items)
-puts_fit log c by s [] below fits = tt
-puts_fit log c by s (item ∷ items) below fits =
-    let line : Line = put_line log c by s (next_number log s) item in
+puts_fit : (log : Journal) (c actor s : ℕ) (items : List NewItem) → s ≤ made_count log
+    → next_number log s + length (put_lines log c actor s items) ≤ last_number
+    → FitAll log (put_lines log c actor s items)
+puts_fit log c actor s [] below fits = tt
+puts_fit log c actor s (item ∷ items) below fits =
+    let line : Line = put_line log c actor s (next_number log s) item in
     elim (cases_Bool (is_held_back log c s item)) [
       | inl held ↦ rw held
-          (puts_fit log c by s items below (let h : next_number log s + length (put_lines log c by s items)
-          ≤ last_number = rw held at fits in h))
+          (puts_fit log c actor s items below
+          (let h : next_number log s + length (put_lines log c actor s items) ≤ last_number = rw held at fits in
+          h))
       | inr free ↦
-          let h : next_number log s + suc (length (put_lines (line ∷ log) c by s items)) ≤ last_number =
+          let h : next_number log s + suc (length (put_lines (line ∷ log) c actor s items)) ≤ last_number =
           rw free at fits in
           let next : next_number (line ∷ log) s ≡ 1 + next_number log s = rw (is_itself s) refl in
-          rw free ((below, (refl, omega arith)), puts_fit (line ∷ log) c by s items below (omega arith))
+          rw free ((below, (refl, omega arith)), puts_fit (line ∷ log) c actor s items below (omega arith))
     ]
 
--- The lines of a put of several items are those that the scribe writes from their outcomes.
-puts_told : (log : Journal) (c by s : ℕ)
+puts_told : (log : Journal) (c actor s : ℕ)
     (items : List NewItem)
-    → map told_by (put_lines log c by s items) ≡ lines_by c by (put_entries s items (put_outcomes log c by s items))
-puts_told log c by s [] = refl
-puts_told log c by s (item ∷ items) =
+    → map told_by (put_lines log c actor s items)
+    ≡ lines_by c actor (put_entries s items (put_outcomes log c actor s items))
+puts_told log c actor s [] = refl
+puts_told log c actor s (item ∷ items) =
     grind (
       arith,
-      puts_told log c by s items,
-      puts_told (put_line log c by s (next_number log s) item ∷ log) c by s items,
+      puts_told log c actor s items,
+      puts_told (put_line log c actor s (next_number log s) item ∷ log) c actor s items,
     )
 
--- If no item or no outcome is left, no entry of a put is left.
 pub none_put : (s : ℕ) (items : List NewItem) (outcomes : List Outcome) → (items ≡ []) ⊎ (outcomes ≡ [])
     → put_entries s items outcomes ≡ []
 none_put s [] outcomes h = refl
@@ -84,38 +81,35 @@ none_put s (item ∷ items) [] h = refl
 none_put s (item ∷ items) (o ∷ outcomes) (inl e) = absurd (cc e)
 none_put s (item ∷ items) (o ∷ outcomes) (inr e) = absurd (cc e)
 
--- The lines of the steps of a scaling fit the journal, one after another, if the sequence numbers last for all of them.
-steps_fit : (log : Journal) (c by s : ℕ) (steps : List ScaleStep) → s ≤ made_count log
+steps_fit : (log : Journal) (c actor s : ℕ) (steps : List ScaleStep) → s ≤ made_count log
     → next_number log s + length steps ≤ last_number
-    → FitAll log (step_lines log c by s steps)
-steps_fit log c by s [] below fits = tt
-steps_fit log c by s (Join b ∷ steps) below fits =
-    let line : Line = plain_line c by (step_entry log s (Join b)) in
+    → FitAll log (step_lines log c actor s steps)
+steps_fit log c actor s [] below fits = tt
+steps_fit log c actor s (Join b ∷ steps) below fits =
+    let line : Line = plain_line c actor (step_entry log s (Join b)) in
     let next : next_number (line ∷ log) s ≡ 1 + next_number log s = rw (is_itself s) refl in (
       (below, ((refl, omega (arith, fits)), refl)),
-      steps_fit (line ∷ log) c by s steps below (omega (arith, fits)),
+      steps_fit (line ∷ log) c actor s steps below (omega (arith, fits)),
     )
-steps_fit log c by s (Cut b ∷ steps) below fits =
-    let line : Line = plain_line c by (step_entry log s (Cut b)) in
+steps_fit log c actor s (Cut b ∷ steps) below fits =
+    let line : Line = plain_line c actor (step_entry log s (Cut b)) in
     let next : next_number (line ∷ log) s ≡ 1 + next_number log s = rw (is_itself s) refl in (
       (below, ((refl, omega (arith, fits)), refl)),
-      steps_fit (line ∷ log) c by s steps below (omega (arith, fits)),
+      steps_fit (line ∷ log) c actor s steps below (omega (arith, fits)),
     )
 
--- The lines of the steps of a scaling are those that the scribe writes from the entries in the reply.
-steps_told : (log : Journal) (c by s : ℕ)
+steps_told : (log : Journal) (c actor s : ℕ)
     (steps : List ScaleStep)
-    → map told_by (step_lines log c by s steps)
-    ≡ lines_by c by (filter is_step (map (λ (line : Line). line.what) (step_lines log c by s steps)))
-steps_told log c by s [] = refl
-steps_told log c by s (Join b ∷ steps) =
-    let line : Line = plain_line c by (step_entry log s (Join b)) in
-    ap (λ ls. told_by line ∷ ls) (steps_told (line ∷ log) c by s steps)
-steps_told log c by s (Cut b ∷ steps) =
-    let line : Line = plain_line c by (step_entry log s (Cut b)) in
-    ap (λ ls. told_by line ∷ ls) (steps_told (line ∷ log) c by s steps)
+    → map told_by (step_lines log c actor s steps)
+    ≡ lines_by c actor (filter is_step (map (λ (line : Line). line.what) (step_lines log c actor s steps)))
+steps_told log c actor s [] = refl
+steps_told log c actor s (Join b ∷ steps) =
+    let line : Line = plain_line c actor (step_entry log s (Join b)) in
+    ap (λ ls. told_by line ∷ ls) (steps_told (line ∷ log) c actor s steps)
+steps_told log c actor s (Cut b ∷ steps) =
+    let line : Line = plain_line c actor (step_entry log s (Cut b)) in
+    ap (λ ls. told_by line ∷ ls) (steps_told (line ∷ log) c actor s steps)
 
--- The sequence numbers of the records of a batch are those that the scribe reads from the reply.
 read_told : (rs : List Logged) → map (λ (r : Logged). r.seq) rs ≡ numbers_read (map stored rs)
 read_told [] = refl
 read_told (r ∷ rs) = ap (λ ns. r.seq ∷ ns) (read_told rs)
@@ -127,19 +121,15 @@ abbrev pub IsOther : Command → Type 0
 IsOther (command.Create name count) = ⊥
 IsOther _ = Unit {0}
 
--- What the scribe does with an accepted command other than CreateStream: the numbers that the command takes are left
--- (`MayNumber`), its lines fit the journal (`FitAll`), and the scribe writes just these lines.
-pub record Told (log : Journal) (c by : ℕ) (vs : List Known) (what : Command) (lines : List Line) (r : Reply) :
+-- The numbers that the command takes are left, its lines fit the journal, and the scribe writes just these.
+pub record Told (log : Journal) (c actor : ℕ) (vs : List Known) (asked : Command) (lines : List Line) (r : Reply) :
     Type 0 where
-  pub can : MayNumber (changed_name what) vs what
+  pub can : MayNumber (changed_name asked) vs asked
   pub fits : FitAll log lines
-  pub told : map told_by lines ≡ lines_by c by (entries_of vs what r)
+  pub told : map told_by lines ≡ lines_by c actor (entries_of vs asked r)
 
--- In this module, `vs` are the live streams that the scribe knows, and what it knows is what the journal `log` says.
-module _ (log : Journal) (c by made : ℕ) (vs : List Known) (k : Knows log made vs) where
-  -- If `s` is the live stream with the name `name`, the scribe finds by this name a stream `v` with the number `s`. The
-  -- scribe knows the next sequence number and the number of shards of this stream. So whatever follows from these facts
-  -- holds.
+-- `vs` are the live streams that the scribe knows, as the journal `log` says.
+module _ (log : Journal) (c actor made : ℕ) (vs : List Known) (k : Knows log made vs) where
   in_named : {A : Type 0} (name : List ℕ) (s : ℕ) → stream_named log name ≡ Some s
       → ((v : Known) → known_as name vs ≡ Some v → s ≡ v.no → s ≤ made_count log → next_number log s ≡ v.drawn + 1
       → length (shards log s) ≡ v.shard + 1
@@ -153,25 +143,28 @@ module _ (log : Journal) (c by made : ℕ) (vs : List Known) (k : Knows log made
       each m.0 m.1 (sym m.2) below (ap (next_number log) (sym m.2) ∙ known.next)
       (ap (λ n. length (shards log n)) (sym m.2) ∙ known.many) known.left
 
-  -- If an accepted command other than CreateStream adds just the line `line`, the scribe writes this line (`Told`).
-  tells_line : (what : Command) (line : Line) (r : Reply) → walks.Tells log c by what line r → IsOther what
-      → Told log c by vs what (line ∷ []) r
+  tells_line : (asked : Command) (line : Line) (r : Reply) → walks.Tells log c actor asked line r → IsOther asked
+      → Told log c actor vs asked (line ∷ []) r
   tells_line _ _ _ (walks.Creates name count fits) other = absurd other
   tells_line _ _ _ (walks.Deletes name s named) other = in_named name s named (λ v is no below next many left.
-      record { can = rw is tt; fits = (tt, tt); told = rw is (λ i. line_by c by (entry.Gone (no i)) ∷ []) })
+      record { can = rw is tt; fits = (tt, tt); told = rw is (λ i. line_by c actor (entry.Gone (no i)) ∷ []) })
   tells_line _ _ _ (walks.Keeps name wanted raise s named fits) other =
       in_named name s named (λ v is no below next many left.
-      record { can = rw is tt; fits = (tt, tt); told = rw is (λ i. line_by c by (entry.Kept (no i) wanted) ∷ []) })
-  tells_line _ _ _ (walks.Enforces name on s named) other = in_named name s named (λ v is no below next many left.
-      record { can = rw is tt; fits = (tt, tt); told = rw is (λ i. line_by c by (entry.Enforced (no i) on) ∷ []) })
+      record { can = rw is tt; fits = (tt, tt); told = rw is (λ i. line_by c actor (entry.Kept (no i) wanted) ∷ []) })
+  tells_line _ _ _ (walks.Enforces name is_on s named) other = in_named name s named (λ v is no below next many left.
+      record {
+        can = rw is tt;
+        fits = (tt, tt);
+        told = rw is (λ i. line_by c actor (entry.Enforced (no i) is_on) ∷ []);
+      })
   tells_line _ _ _ (walks.Puts name item s named fits) other = in_named name s named (λ v is no below next many left.
       let place = put_place log s (next_number log s) item in
       record {
         can = rw is tt;
         fits = ((below, (refl, below_last _ v.drawn next left fits)), tt);
-        told = rw is (λ i. line_by c by (put_entry (no i) item place) ∷ []);
+        told = rw is (λ i. line_by c actor (put_entry (no i) item place) ∷ []);
       })
-  tells_line _ _ _ (walks.Splits name sh at s named listed fits) other =
+  tells_line _ _ _ (walks.Splits name sh hash s named listed fits) other =
       in_named name s named (λ v is no below next many left.
       let parts = or_parts (nat_lt last_number (length (shards log s) + 1)) _ fits in
       let room : length (shards log s) + 1 ≤ last_number = at_most _ _ parts.0 in
@@ -179,7 +172,7 @@ module _ (log : Journal) (c by made : ℕ) (vs : List Known) (k : Knows log made
       record {
         can = rw is (left, omega arith);
         fits = ((below, ((refl, below_last _ v.drawn next left parts.1), refl)), tt);
-        told = rw is (λ i. line_by c by (entry.Split (no i) sh at (next i) (many i) (upper i)) ∷ []);
+        told = rw is (λ i. line_by c actor (entry.Split (no i) sh hash (next i) (many i) (upper i)) ∷ []);
       })
   tells_line _ _ _ (walks.Merges name sh other s named listed fits) o =
       in_named name s named (λ v is no below next many left.
@@ -188,33 +181,33 @@ module _ (log : Journal) (c by made : ℕ) (vs : List Known) (k : Knows log made
       record {
         can = rw is (left, omega arith);
         fits = ((below, ((refl, below_last _ v.drawn next left parts.1), refl)), tt);
-        told = rw is (λ i. line_by c by (entry.Merged (no i) sh other (next i) (many i)) ∷ []);
+        told = rw is (λ i. line_by c actor (entry.Merged (no i) sh other (next i) (many i)) ∷ []);
       })
   tells_line _ _ _ (walks.Reads t position limit T place ended begun same) other = record {
     can = tt;
     fits = (tt, tt);
-    told = ap (λ (ns : List ℕ). line_by c by (entry.Read t limit ended ns) ∷ [])
+    told = ap (λ (ns : List ℕ). line_by c actor (entry.Read t limit ended ns) ∷ [])
         (read_told (batch log c T.key.stream T.key.shard (reach T) limit));
   }
   tells_line _ _ _ _ other = record { can = tt; fits = (tt, tt); told = refl }
 
-  -- The scribe writes the lines of each accepted command other than CreateStream (`Told`).
-  pub tells : (what : Command) (lines : List Line) (r : Reply) → walks.Outcome log c by what lines (Ok r) → IsOther what
-      → Told log c by vs what lines r
+  pub tells : (asked : Command) (lines : List Line) (r : Reply) → walks.Outcome log c actor asked lines (Ok r)
+      → IsOther asked
+      → Told log c actor vs asked lines r
   tells _ _ _ (walks.Answers _ _ (walks.Surveys keys rows)) other = record { can = tt; fits = tt; told = refl }
   tells _ _ _ (walks.Answers _ _ _) other = record { can = tt; fits = tt; told = refl }
-  tells _ _ _ (walks.Adds what line r line_is) other = tells_line what line r line_is other
+  tells _ _ _ (walks.Adds asked line r line_is) other = tells_line asked line r line_is other
   tells _ _ _ (walks.Stores name items s named fits) other = in_named name s named (λ v is no below next many left.
       record {
         can = rw is tt;
-        fits = puts_fit log c by s items below (at_most _ _ fits);
-        told = rw is (puts_told log c by s items
-            ∙ ap (λ n. lines_by c by (put_entries n items (put_outcomes log c by s items))) no);
+        fits = puts_fit log c actor s items below (at_most _ _ fits);
+        told = rw is (puts_told log c actor s items
+            ∙ ap (λ n. lines_by c actor (put_entries n items (put_outcomes log c actor s items))) no);
       })
   tells _ _ _ (walks.Scales name goal s named few fits) other = in_named name s named (λ v is no below next many left.
       let parts = or_parts (nat_lt last_number (next_number log s + length (steps_to log s goal))) _ fits in
       record {
         can = rw is tt;
-        fits = steps_fit log c by s (steps_to log s goal) below (at_most _ _ parts.0);
-        told = rw is (steps_told log c by s (steps_to log s goal));
+        fits = steps_fit log c actor s (steps_to log s goal) below (at_most _ _ parts.0);
+        told = rw is (steps_told log c actor s (steps_to log s goal));
       })

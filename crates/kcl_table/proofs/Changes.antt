@@ -1,11 +1,11 @@
--- The rows of the lease table after one row was changed, inserted or removed at the index of its key. Their keys still
--- rise, and the switches of each row still are at most its counter.
+-- The rows after a change, insertion or removal at a key's index are still a lease table's.
 use Rattle.std.proofs.Common.{◌≡◌, ℕ, suc, ◌+◌, ◌<◌, ◌≤◌, Bool, true, false, List, [], ◌∷◌, length, slice_set, Some}
 use Rattle.std.proofs.Common.{None, refl, sym, ap, subst, ◌∙◌, arith}
 use Rattle.std.specs.Prelude.{if◌then◌else◌}
 use Rattle.std.specs.List.{insert, remove}
+use Rattle.std.proofs.lemmas.Option.{same_Some}
 use Rattle.kds_base.specs.declared.lease_key.ShardRef.{ShardRef}
-use Rattle.kds_base.proofs.Facts.{apart, same_some}
+use Rattle.kds_base.proofs.Facts.{apart}
 use Rattle.kds_defs.specs.declared.reply.Row.{Row}
 use Rattle.kds_defs.specs.Keys.{is_before, same_key}
 use Rattle.kds_defs.specs.Leases.{is_other, taken_row}
@@ -25,35 +25,29 @@ found_here : (key : ShardRef) (x r : Row) (rs : List Row) (d : Bool) → same_ke
     → (row_of rs key ≡ Some r → AreCounted rs → (r.key ≡ key) × (r.switches ≤ r.counter))
     → (r.key ≡ key) × (r.switches ≤ r.counter)
 found_here key x r rs true same h counted rest =
-    let e = same_some x r h in
+    let e = same_Some x r h in
     subst (λ (y : Row). (y.key ≡ key) × (y.switches ≤ y.counter)) e (same_ref x.key key same, counted.0)
 found_here key x r rs false same h counted rest = rest h counted.1
 
--- The row that is found for the key `key` has this key. If the switches of each row are at most its counter
--- (`AreCounted`), this is so for the found row too.
 pub found : (key : ShardRef) (r : Row) (rs : List Row) → AreCounted rs → row_of rs key ≡ Some r
     → (r.key ≡ key) × (r.switches ≤ r.counter)
 found key r [] counted h = absurd cc
 found key r (x ∷ rs) counted h =
     found_here key x r rs (same_key x.key key) refl h counted (λ g all. found key r rs all g)
 
--- After a take, the switches are still at most the counter. `b` is true if the take counts as a switch.
 switches_if : (b : Bool) (n m : ℕ) → n ≤ m → (if b then n + 1 else n) ≤ m + 1
 switches_if true n m h = omega arith
 switches_if false n m h = omega arith
 
--- If the switches of the row `r` are at most its counter, they still are after a take.
 pub switches_taken : (tenure owner : ℕ) (r : Row) → r.switches ≤ r.counter
     → (taken_row tenure owner r).switches ≤ (taken_row tenure owner r).counter
 switches_taken tenure owner r h = switches_if (is_other r.owner owner) r.switches r.counter h
 
--- If the switches of the row `r` are at most its counter, they still are after a renewal or a freeing.
 pub switches_written : (change : Change) (r : Row) → r.switches ≤ r.counter
     → (written_row change r).switches ≤ (written_row change r).counter
 switches_written Renewed r h = omega arith
 switches_written Freed r h = omega arith
 
--- A renewal or a freeing doesn't change the key of a row.
 pub key_written : (change : Change) (r : Row) → (written_row change r).key ≡ r.key
 key_written Renewed r = refl
 key_written Freed r = refl
@@ -64,7 +58,7 @@ changed_here : (f : Row → Row) (key : ShardRef) (x r : Row) (rs : List Row) (d
     → (if d then Some x else row_of rs key) ≡ Some r
     → (row_of rs key ≡ Some r → changed (λ _. f r) key rs ≡ changed f key rs)
     → (if d then f r ∷ rs else x ∷ changed (λ _. f r) key rs) ≡ (if d then f x ∷ rs else x ∷ changed f key rs)
-changed_here f key x r rs true same h rest = ap (λ y. f y ∷ rs) (sym (same_some x r h))
+changed_here f key x r rs true same h rest = ap (λ y. f y ∷ rs) (sym (same_Some x r h))
 changed_here f key x r rs false same h rest = ap (λ ys. x ∷ ys) (rest h)
 
 changed_by : (f : Row → Row) (key : ShardRef) (r : Row) (rs : List Row) → row_of rs key ≡ Some r
@@ -72,14 +66,11 @@ changed_by : (f : Row → Row) (key : ShardRef) (r : Row) (rs : List Row) → ro
 changed_by f key r [] h = absurd cc
 changed_by f key r (x ∷ rs) h = changed_here f key x r rs (same_key x.key key) refl h (changed_by f key r rs)
 
--- The key of `row` has a row in `rs`, and writing `row` over this row gives the same rows as changing the row of the
--- key `key` by `f`.
+-- Writing `row` over its key's row, which exists, is the change by `f`.
 pub record Puts (f : Row → Row) (key : ShardRef) (row : Row) (rs : List Row) : Type 0 where
   pub there : row_of rs row.key ≡ None → ⊥
   pub rows : changed (λ _. row) row.key rs ≡ changed f key rs
 
--- If `r` is the row of the key `key` and `row` is `f r`, then writing `row` over `r` gives the same rows as changing
--- `r` by `f` (`Puts`). `f` doesn't change the key.
 pub puts : (f : Row → Row) (key : ShardRef) (r row : Row) (rs : List Row) → AreCounted rs → row_of rs key ≡ Some r
     → row ≡ f r → (f r).key ≡ r.key → Puts f key row rs
 puts f key r row rs counted h is keeps =
@@ -99,16 +90,14 @@ set_here : (row x : Row) (rs : List Row) (b d : Bool) → is_before x.key row.ke
     → ((if b then suc (insertion_index row.key rs) else 0) < suc (length rs))
     × (slice_set (x ∷ rs) (if b then suc (insertion_index row.key rs) else 0) row
     ≡ (if d then row ∷ rs else x ∷ changed (λ _. row) row.key rs))
-set_here row x rs true true before same order there rest =
-    absurd (apart (same_key x.key row.key) same (not_same x.key row.key before))
-set_here row x rs true false before same order there rest = let h = rest there in
+set_here row x rs true true is_earlier same order there rest =
+    absurd (apart (same_key x.key row.key) same (not_same x.key row.key is_earlier))
+set_here row x rs true false is_earlier same order there rest = let h = rest there in
     (omega (arith, h.0), ap (λ ys. x ∷ ys) h.1)
-set_here row x rs false true before same order there rest = (omega arith, refl)
-set_here row x rs false false before same order there rest =
-    absurd (there (absent row.key rs (before_all row.key x.key rs (after_else x.key row.key before same) order.0)))
+set_here row x rs false true is_earlier same order there rest = (omega arith, refl)
+set_here row x rs false false is_earlier same order there rest =
+    absurd (there (absent row.key rs (before_all row.key x.key rs (after_else x.key row.key is_earlier same) order.0)))
 
--- If the key of `row` has a row, the index of this key is within the list, and writing `row` at this index replaces the
--- key's row.
 pub set_is : (row : Row) (rs : List Row) → AreInOrder rs → (row_of rs row.key ≡ None → ⊥)
     → (insertion_index row.key rs < length rs)
     × (slice_set rs (insertion_index row.key rs) row ≡ changed (λ _. row) row.key rs)
@@ -137,8 +126,6 @@ table_here row x rs true same counted table rest =
 table_here row x rs false same counted table rest =
     ((before_changed x.key row rs table.0.0, rest.0), (table.1.0, rest.1))
 
--- The rows can still be those of a lease table (`IsTable`) after `row` has replaced the row of its key, if the switches
--- of `row` are at most its counter.
 pub table_changed : (row : Row) (rs : List Row) → row.switches ≤ row.counter → IsTable rs
     → IsTable (changed (λ _. row) row.key rs)
 table_changed row [] counted table = table
@@ -160,14 +147,12 @@ insert_here : (new x : Row) (rs : List Row) (b : Bool) → is_before x.key new.k
     → insert rs (insertion_index new.key rs) new ≡ with_row new rs
     → insert (x ∷ rs) (if b then suc (insertion_index new.key rs) else 0) new
     ≡ (if is_before new.key x.key then new ∷ x ∷ rs else x ∷ with_row new rs)
-insert_here new x rs true before same rest =
+insert_here new x rs true is_earlier same rest =
     ap (λ ys. x ∷ ys) rest
-    ∙ ap (λ e. if e then new ∷ x ∷ rs else x ∷ with_row new rs) (sym (not_before_after x.key new.key before))
-insert_here new x rs false before same rest =
-    ap (λ e. if e then new ∷ x ∷ rs else x ∷ with_row new rs) (sym (after_else x.key new.key before same))
+    ∙ ap (λ e. if e then new ∷ x ∷ rs else x ∷ with_row new rs) (sym (not_before_after x.key new.key is_earlier))
+insert_here new x rs false is_earlier same rest =
+    ap (λ e. if e then new ∷ x ∷ rs else x ∷ with_row new rs) (sym (after_else x.key new.key is_earlier same))
 
--- If the key of `new` has no row, inserting `new` at the index of its key gives the rows with `new` in the order of the
--- keys.
 pub insert_is : (new : Row) (rs : List Row) → row_of rs new.key ≡ None
     → insert rs (insertion_index new.key rs) new ≡ with_row new rs
 insert_is new [] h = refl
@@ -190,13 +175,11 @@ before_with k new (x ∷ rs) h all =
 with_here : (new x : Row) (rs : List Row) (b : Bool) → is_before new.key x.key ≡ b → same_key x.key new.key ≡ false
     → new.switches ≤ new.counter → IsTable (x ∷ rs) → IsTable (with_row new rs)
     → IsTable (if b then new ∷ x ∷ rs else x ∷ with_row new rs)
-with_here new x rs true before same counted table rest =
-    (((before, before_all new.key x.key rs before table.0.0), table.0), (counted, table.1))
-with_here new x rs false before same counted table rest =
-    ((before_with x.key new rs (before_else x.key new.key before same) table.0.0, rest.0), (table.1.0, rest.1))
+with_here new x rs true is_earlier same counted table rest =
+    (((is_earlier, before_all new.key x.key rs is_earlier table.0.0), table.0), (counted, table.1))
+with_here new x rs false is_earlier same counted table rest =
+    ((before_with x.key new rs (before_else x.key new.key is_earlier same) table.0.0, rest.0), (table.1.0, rest.1))
 
--- The rows can still be those of a lease table (`IsTable`) with the row `new` inserted, if the key of `new` has no row
--- yet and the switches of `new` are at most its counter.
 pub table_with : (new : Row) (rs : List Row) → row_of rs new.key ≡ None → new.switches ≤ new.counter → IsTable rs
     → IsTable (with_row new rs)
 table_with new [] h counted table = ((tt, tt), (counted, tt))
@@ -213,19 +196,18 @@ remove_here : (key : ShardRef) (x r : Row) (rs : List Row) (b d : Bool) → is_b
     × (remove rs (insertion_index key rs) ≡ without_row key rs))
     → ((if b then suc (insertion_index key rs) else 0) < suc (length rs))
     × (remove (x ∷ rs) (if b then suc (insertion_index key rs) else 0) ≡ (if d then rs else x ∷ without_row key rs))
-remove_here key x r rs true true before same order h rest =
-    absurd (apart (same_key x.key key) same (not_same x.key key before))
-remove_here key x r rs true false before same order h rest = let g = rest h in
+remove_here key x r rs true true is_earlier same order h rest =
+    absurd (apart (same_key x.key key) same (not_same x.key key is_earlier))
+remove_here key x r rs true false is_earlier same order h rest = let g = rest h in
     (omega (arith, g.0), ap (λ ys. x ∷ ys) g.1)
-remove_here key x r rs false true before same order h rest = (omega arith, refl)
-remove_here key x r rs false false before same order h rest =
-    absurd (none_some r (sym (absent key rs (before_all key x.key rs (after_else x.key key before same) order.0)) ∙ h))
+remove_here key x r rs false true is_earlier same order h rest = (omega arith, refl)
+remove_here key x r rs false false is_earlier same order h rest =
+    absurd (none_some r (sym (absent key rs (before_all key x.key rs (after_else x.key key is_earlier same) order.0))
+    ∙ h))
   where
     none_some : (r : Row) → None ≡ Some r → ⊥
     none_some r h = cc
 
--- If the key `key` has a row, the index of this key is within the list, and removing the row at this index gives the
--- rows without the key's row.
 pub remove_is : (key : ShardRef) (r : Row) (rs : List Row) → AreInOrder rs → row_of rs key ≡ Some r
     → (insertion_index key rs < length rs) × (remove rs (insertion_index key rs) ≡ without_row key rs)
 remove_is key r [] order h = absurd cc
@@ -247,7 +229,6 @@ without_here : (key : ShardRef) (x : Row) (rs : List Row) (d : Bool) → IsTable
 without_here key x rs true table rest = (table.0.1, table.1.1)
 without_here key x rs false table rest = ((before_without x.key key rs table.0.0, rest.0), (table.1.0, rest.1))
 
--- The rows can still be those of a lease table (`IsTable`) without the row of the key `key`.
 pub table_without : (key : ShardRef) (rs : List Row) → IsTable rs → IsTable (without_row key rs)
 table_without key [] table = table
 table_without key (x ∷ rs) table =

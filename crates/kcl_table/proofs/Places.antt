@@ -1,4 +1,4 @@
--- The index of a key in rows whose keys rise, and that the row of the key is found at this index.
+-- In rows whose keys rise, the row of a key is found at the key's index.
 use Rattle.std.proofs.Common.{◌≡◌, ℕ, zero, suc, ◌<◌, ◌≤◌, Bool, true, false, List, [], ◌∷◌, length, Some, None, refl}
 use Rattle.std.proofs.Common.{sym, ap, ◌∙◌, arith}
 use Rattle.std.specs.Prelude.{slice_get, slice_index_or, if◌then◌else◌}
@@ -10,13 +10,11 @@ use Rattle.kds_defs.specs.Keys.{is_before, same_key}
 use Rattle.kds_defs.proofs.Keys.{after_else, before_both, not_same, not_same_after}
 use Rattle.kcl_table.specs.Rows.{AreInOrder, IsBeforeAll, if_key, insertion_index, row_of}
 
--- If the key `a` comes before the key `b`, and `b` before the keys of all rows, then `a` comes before the keys of all
--- rows.
 pub before_all : (a b : ShardRef) (rs : List Row) → is_before a b ≡ true → IsBeforeAll b rs → IsBeforeAll a rs
 before_all a b [] h all = tt
 before_all a b (r ∷ rs) h all = (before_both a b r.key h all.0, before_all a b rs h all.1)
 
--- Whether the key of the row `r` comes before the key `key`.
+-- Whether the row comes before `key`.
 abbrev pub comes_before : ShardRef → Row → Bool
 comes_before key r = is_before r.key key
 
@@ -26,7 +24,6 @@ all_at key [] j d all h = absurd (omega arith)
 all_at key (r ∷ rs) zero d all h = all.0
 all_at key (r ∷ rs) (suc j) d all h = all_at key rs j d all.1 (omega arith)
 
--- If the keys of the rows rise, the rows before the key `key` come first in the list, and the others after them.
 pub partitioned : (key : ShardRef) (rs : List Row) → AreInOrder rs → IsPartitionedBy (comes_before key) rs
 partitioned key [] order i j d le within is = absurd (omega arith)
 partitioned key (r ∷ rs) order zero zero d le within is = is
@@ -36,7 +33,6 @@ partitioned key (r ∷ rs) order (suc i) zero d le within is = absurd (omega ari
 partitioned key (r ∷ rs) order (suc i) (suc j) d le within is =
     partitioned key rs order.1 i j d (omega arith) (omega arith) is
 
--- If `i` parts the rows before the key `key` from the others, `i` is the index of this key (`insertion_index`).
 pub index_is : (key : ShardRef) (rs : List Row) (i : ℕ) → i ≤ length rs
     → IsPartitionPoint (λ r. comes_before key r ≡ true) (λ r. comes_before key r ≡ false) rs i
     → i ≡ insertion_index key rs
@@ -50,7 +46,6 @@ index_is key (r ∷ rs) (suc i) le h =
     ) in
     ap suc rest ∙ ap (λ b. if b then suc (insertion_index key rs) else 0) (sym (h.0 0 r (omega arith) (omega arith)))
 
--- If the key `key` comes before the keys of all rows, none of them has this key.
 pub absent : (key : ShardRef) (rs : List Row) → IsBeforeAll key rs → row_of rs key ≡ None
 absent key [] all = refl
 absent key (r ∷ rs) all = ap (λ b. if b then Some r else row_of rs key) (not_same_after r.key key all.0)
@@ -61,16 +56,14 @@ row_here : (key : ShardRef) (r : Row) (rs : List Row) (b d : Bool) → is_before
     → row_of rs key ≡ if_key key (slice_get rs (insertion_index key rs))
     → (if d then Some r else row_of rs key)
     ≡ if_key key (slice_get (r ∷ rs) (if b then suc (insertion_index key rs) else 0))
-row_here key r rs true true before same order rest =
-    absurd (apart (same_key r.key key) same (not_same r.key key before))
-row_here key r rs true false before same order rest = rest
-row_here key r rs false true before same order rest = ap (λ d. if d then Some r else None) (sym same)
-row_here key r rs false false before same order rest =
-    absent key rs (before_all key r.key rs (after_else r.key key before same) order.0)
+row_here key r rs true true is_earlier same order rest =
+    absurd (apart (same_key r.key key) same (not_same r.key key is_earlier))
+row_here key r rs true false is_earlier same order rest = rest
+row_here key r rs false true is_earlier same order rest = ap (λ d. if d then Some r else None) (sym same)
+row_here key r rs false false is_earlier same order rest =
+    absent key rs (before_all key r.key rs (after_else r.key key is_earlier same) order.0)
     ∙ ap (λ d. if d then Some r else None) (sym same)
 
--- If the keys of the rows rise, the row of the key `key`, if there is one, is at the index of this key
--- (`insertion_index`).
 pub row_there : (key : ShardRef) (rs : List Row) → AreInOrder rs
     → row_of rs key ≡ if_key key (slice_get rs (insertion_index key rs))
 row_there key [] order = refl

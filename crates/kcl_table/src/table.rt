@@ -89,7 +89,7 @@ impl Table {
             (λ a. a ≡ (if is_some (row_of self.old key) then Err refusal.LeaseThere else Ok tt)) }
         ensures made { IfOk result
             (λ a. OnOk a (self.new ≡ with_row (new_row key floor start parent adjacent) self.old)) }
-        ensures refused { IfOk result (λ a. OnErr a (self.new ≡ self.old)) }
+        ensures same { IfOk result (λ a. OnErr a (self.new ≡ self.old)) }
         ensures kept { OnErr result (self.new ≡ self.old) }
     {
         let None = row_of(&self.rows, &key) else {
@@ -114,7 +114,7 @@ impl Table {
         requires { tenure ≢ 0 }
         ensures value { result ≡ take_answer (row_of self.old key) counter }
         ensures taken { OnOk result (self.new ≡ changed (taken_row tenure owner) key self.old) }
-        ensures refused { OnErr result (self.new ≡ self.old) }
+        ensures same { OnErr result (self.new ≡ self.old) }
     {
         let Some(row) = row_of(&self.rows, &key) else {
             return Err(Refusal::NoLease);
@@ -138,7 +138,7 @@ impl Table {
         requires { tenure ≢ 0 }
         ensures value { result ≡ write_answer (row_of self.old key) tenure counter }
         ensures written { OnOk result (self.new ≡ changed (written_row change) key self.old) }
-        ensures refused { OnErr result (self.new ≡ self.old) }
+        ensures same { OnErr result (self.new ≡ self.old) }
     {
         let row = held_row(&self.rows, &key, tenure, counter)?;
         let next = write_counter(&row)?;
@@ -166,7 +166,7 @@ impl Table {
         requires { tenure ≢ 0 }
         ensures value { result ≡ mark_answer (row_of self.old key) tenure counter to delivered at_end }
         ensures marked { OnOk result (self.new ≡ changed (marked_row to) key self.old) }
-        ensures refused { OnErr result (self.new ≡ self.old) }
+        ensures same { OnErr result (self.new ≡ self.old) }
     {
         let row = held_row(&self.rows, &key, tenure, counter)?;
         let next = target_counter(&row, &to, delivered, at_end)?;
@@ -179,7 +179,7 @@ impl Table {
     pub fn cut(&mut self, key: ShardRef, counter: u64, listed: bool) -> Result<(), Refusal>
         ensures value { result ≡ cut_answer (row_of self.old key) counter listed }
         ensures cut { OnOk result (self.new ≡ without_row key self.old) }
-        ensures refused { OnErr result (self.new ≡ self.old) }
+        ensures same { OnErr result (self.new ≡ self.old) }
     {
         let Some(row) = row_of(&self.rows, &key) else {
             return Err(Refusal::NoLease);

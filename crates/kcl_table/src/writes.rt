@@ -53,7 +53,7 @@ pub fn held_row(
 ) -> Result<Row, Refusal>
     requires order { AreInOrder rows.now }
     requires some { tenure ≢ 0 }
-    ensures refused { (next : Result ℕ Refusal)
+    ensures same { (next : Result ℕ Refusal)
         → IfErr result (λ r. held_answer (row_of rows.now key.now) tenure counter next ≡ Err r) }
     ensures held { (next : Result ℕ Refusal)
         → IfOk result (λ r. held_answer (row_of rows.now key.now) tenure counter next ≡ next) }

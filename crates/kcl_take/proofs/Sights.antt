@@ -1,13 +1,13 @@
--- The notes on rows after rows were seen, as the code writes them at the indexes of their keys. A note has a row's key,
--- a counter, and the moment at which this counter was first seen.
+-- The code's updates of notes, at the indexes of their keys, agree with `noted`.
 use Rattle.std.proofs.Common.{◌≡◌, ℕ, zero, suc, ◌<◌, ◌≤◌, length, slice_set, Bool, true, false}
 use Rattle.std.proofs.Common.{List, [], ◌∷◌, Option, Some, None, refl, sym, ap, subst, ◌∙◌, arith}
 use Rattle.std.specs.Prelude.{◌==◌, cond, if◌then◌else◌, slice_get, slice_index_or}
 use Rattle.std.specs.List.{insert}
 use Rattle.std.specs.List.Sorted.{IsPartitionedBy, IsPartitionPoint}
 use Rattle.std.proofs.lemmas.Bool.Decides.{nat_tests}
+use Rattle.std.proofs.lemmas.Option.{none-some, same_Some}
 use Rattle.kds_base.specs.declared.lease_key.ShardRef.{ShardRef}
-use Rattle.kds_base.proofs.Facts.{apart, same_some}
+use Rattle.kds_base.proofs.Facts.{apart, is_equal}
 use Rattle.kcl_defs.specs.declared.plans.Seen.{Seen}
 use Rattle.kds_defs.specs.declared.reply.Row.{Row}
 use Rattle.kds_defs.specs.Keys.{is_before, same_key}
@@ -23,7 +23,7 @@ before_all a b (s ∷ xs) h all = (before_both a b s.key h all.0, before_all a b
 
 -- ---- The index of a note
 
--- Whether the key of the note `s` comes before the key `key`.
+-- Whether the note's key comes before `key`.
 abbrev pub comes_before : ShardRef → Seen → Bool
 comes_before key s = is_before s.key key
 
@@ -33,8 +33,6 @@ all_at key [] j d all h = absurd (omega arith)
 all_at key (s ∷ xs) zero d all h = all.0
 all_at key (s ∷ xs) (suc j) d all h = all_at key xs j d all.1 (omega arith)
 
--- If the keys of the notes rise, the notes whose keys come before `key` are at the beginning of the list, and all other
--- notes are after them.
 pub partitioned : (key : ShardRef) (xs : List Seen) → AreInOrder xs → IsPartitionedBy (comes_before key) xs
 partitioned key [] order i j d le within is = absurd (omega arith)
 partitioned key (s ∷ xs) order zero zero d le within is = is
@@ -44,8 +42,6 @@ partitioned key (s ∷ xs) order (suc i) zero d le within is = absurd (omega ari
 partitioned key (s ∷ xs) order (suc i) (suc j) d le within is =
     partitioned key xs order.1 i j d (omega arith) (omega arith) is
 
--- If the notes before the index `i` have keys before `key`, and the notes from `i` on don't, then `i` is the index of
--- this key (`index_of`).
 pub index_is : (key : ShardRef) (xs : List Seen) (i : ℕ) → i ≤ length xs
     → IsPartitionPoint (λ s. comes_before key s ≡ true) (λ s. comes_before key s ≡ false) xs i → i ≡ index_of key xs
 index_is key [] i le h = omega arith
@@ -67,16 +63,14 @@ seen_here : (key : ShardRef) (s : Seen) (xs : List Seen) (b d : Bool) → is_bef
     → AreInOrder (s ∷ xs)
     → seen_at xs key ≡ if_key key (slice_get xs (index_of key xs))
     → (if d then Some s else seen_at xs key) ≡ if_key key (slice_get (s ∷ xs) (if b then suc (index_of key xs) else 0))
-seen_here key s xs true true before same order rest =
-    absurd (apart (same_key s.key key) same (not_same s.key key before))
-seen_here key s xs true false before same order rest = rest
-seen_here key s xs false true before same order rest = ap (λ d. if d then Some s else None) (sym same)
-seen_here key s xs false false before same order rest =
-    absent key xs (before_all key s.key xs (after_else s.key key before same) order.0)
+seen_here key s xs true true is_earlier same order rest =
+    absurd (apart (same_key s.key key) same (not_same s.key key is_earlier))
+seen_here key s xs true false is_earlier same order rest = rest
+seen_here key s xs false true is_earlier same order rest = ap (λ d. if d then Some s else None) (sym same)
+seen_here key s xs false false is_earlier same order rest =
+    absent key xs (before_all key s.key xs (after_else s.key key is_earlier same) order.0)
     ∙ ap (λ d. if d then Some s else None) (sym same)
 
--- If the keys of the notes rise, the note on the row of the key `key` is the note at this key's index (`index_of`), if
--- that note has this key. Otherwise there is no note with this key.
 pub seen_there : (key : ShardRef) (xs : List Seen) → AreInOrder xs
     → seen_at xs key ≡ if_key key (slice_get xs (index_of key xs))
 seen_there key [] order = refl
@@ -85,21 +79,12 @@ seen_there key (s ∷ xs) order =
 
 -- ---- One row: what is written at its index
 
-none_some : (s : Seen) → None ≡ Some s → ⊥
-none_some s h = cc
-
 some_none : (s : Seen) → Some s ≡ None → ⊥
 some_none s h = cc
-
-same_then : (a b : ℕ) → a ≡ b → (a == b) ≡ true
-same_then a b h = grind (arith, nat_tests, h)
 
 differ : (a b : ℕ) → (a ≡ b → ⊥) → (a == b) ≡ false
 differ a b h = grind (arith, nat_tests, h)
 
--- The step of `set_is` from the list `xs` to the list `x ∷ xs`. `s` is the older note on the row of `first`, and its
--- counter differs from that of `first`. `b` stands for whether the key of `x` comes before that of `first`; the lemma
--- holds for either value.
 set_here : (first s x : Seen) (xs : List Seen) (b : Bool)
     → if_key first.key (slice_get (x ∷ xs) (if b then suc (index_of first.key xs) else 0)) ≡ Some s
     → (s.counter ≡ first.counter → ⊥)
@@ -115,21 +100,17 @@ set_here first s x xs false h other rest = (omega arith, here (same_key x.key fi
     here : (d : Bool) → (if d then Some x else None) ≡ Some s
         → first ∷ xs ≡ (if d then (if x.counter == first.counter then x else first) ∷ xs else first ∷ x ∷ xs)
     here true h = ap (λ e. (if e then x else first) ∷ xs)
-        (sym (differ x.counter first.counter (λ e. other (ap (λ (y : Seen). y.counter) (sym (same_some x s h)) ∙ e))))
-    here false h = absurd (none_some s h)
+        (sym (differ x.counter first.counter (λ e. other (ap (λ (y : Seen). y.counter) (sym (same_Some x s h)) ∙ e))))
+    here false h = absurd (none-some s h)
 
--- If the older note `s` on the row of `first` has another counter than `first`, then writing `first` over `s` gives the
--- notes after the row was seen (`noted`).
+-- Writing over an older note with another counter is `noted`.
 pub set_is : (first s : Seen) (xs : List Seen) → if_key first.key (slice_get xs (index_of first.key xs)) ≡ Some s
     → (s.counter ≡ first.counter → ⊥)
     → (index_of first.key xs < length xs) × (slice_set xs (index_of first.key xs) first ≡ noted first xs)
-set_is first s [] h other = absurd (none_some s h)
+set_is first s [] h other = absurd (none-some s h)
 set_is first s (x ∷ xs) h other =
     set_here first s x xs (is_before x.key first.key) h other (λ g. set_is first s xs g other)
 
--- The step of `kept_is` from the list `xs` to the list `x ∷ xs`. `s` is the older note on the row of `first`, and has
--- the counter of `first`. `b` stands for whether the key of `x` comes before that of `first`; the lemma holds for
--- either value.
 kept_here : (first s x : Seen) (xs : List Seen) (b : Bool)
     → if_key first.key (slice_get (x ∷ xs) (if b then suc (index_of first.key xs) else 0)) ≡ Some s
     → s.counter ≡ first.counter
@@ -143,20 +124,17 @@ kept_here first s x xs false h same rest = here (same_key x.key first.key) h
     here : (d : Bool) → (if d then Some x else None) ≡ Some s
         → x ∷ xs ≡ (if d then (if x.counter == first.counter then x else first) ∷ xs else first ∷ x ∷ xs)
     here true h = ap (λ e. (if e then x else first) ∷ xs)
-        (sym (same_then x.counter first.counter (ap (λ (y : Seen). y.counter) (same_some x s h) ∙ same)))
-    here false h = absurd (none_some s h)
+        (sym (is_equal x.counter first.counter (ap (λ (y : Seen). y.counter) (same_Some x s h) ∙ same)))
+    here false h = absurd (none-some s h)
 
--- If the older note `s` on the row of `first` has the counter of `first`, the notes don't change when the row is seen
--- (`noted`).
+-- An older note with the same counter is left as it is, as in `noted`.
 pub kept_is : (first s : Seen) (xs : List Seen) → if_key first.key (slice_get xs (index_of first.key xs)) ≡ Some s
     → s.counter ≡ first.counter
     → xs ≡ noted first xs
-kept_is first s [] h same = absurd (none_some s h)
+kept_is first s [] h same = absurd (none-some s h)
 kept_is first s (x ∷ xs) h same =
     kept_here first s x xs (is_before x.key first.key) h same (λ g. kept_is first s xs g same)
 
--- The step of `insert_is` from the list `xs` to the list `x ∷ xs`. There is no older note on the row of `first`. `b`
--- stands for whether the key of `x` comes before that of `first`; the lemma holds for either value.
 insert_here : (first x : Seen) (xs : List Seen) (b : Bool)
     → if_key first.key (slice_get (x ∷ xs) (if b then suc (index_of first.key xs) else 0)) ≡ None
     → (if_key first.key (slice_get xs (index_of first.key xs)) ≡ None
@@ -172,8 +150,7 @@ insert_here first x xs false h rest = here (same_key x.key first.key) h
     here true h = absurd (some_none x h)
     here false h = refl
 
--- If there is no older note on the row of `first`, inserting `first` at the index of its key gives the notes after the
--- row was seen (`noted`).
+-- Insertion at the key's index is `noted` if the row has no older note.
 pub insert_is : (first : Seen) (xs : List Seen) → if_key first.key (slice_get xs (index_of first.key xs)) ≡ None
     → insert xs (index_of first.key xs) first ≡ noted first xs
 insert_is first [] h = refl
@@ -201,15 +178,14 @@ order_here : (first x : Seen) (xs : List Seen) (b d e : Bool) → is_before x.ke
     → same_key x.key first.key ≡ d → AreInOrder (x ∷ xs)
     → AreInOrder (noted first xs)
     → AreInOrder (if b then x ∷ noted first xs else if d then (if e then x else first) ∷ xs else first ∷ x ∷ xs)
-order_here first x xs true d e before same order rest = (before_noted x.key first xs before order.0, rest)
-order_here first x xs false true true before same order rest = order
-order_here first x xs false true false before same order rest =
+order_here first x xs true d e is_earlier same order rest = (before_noted x.key first xs is_earlier order.0, rest)
+order_here first x xs false true true is_earlier same order rest = order
+order_here first x xs false true false is_earlier same order rest =
     (subst (λ key. IsBeforeAll key xs) (same_ref x.key first.key same) order.0, order.1)
-order_here first x xs false false e before same order rest =
-    let after = after_else x.key first.key before same in
+order_here first x xs false false e is_earlier same order rest =
+    let after = after_else x.key first.key is_earlier same in
     ((after, before_all first.key x.key xs after order.0), order)
 
--- If the keys of the notes rise, the keys still rise after a row was seen (`noted`).
 pub order_noted : (first : Seen) (xs : List Seen) → AreInOrder xs → AreInOrder (noted first xs)
 order_noted first [] order = (tt, tt)
 order_noted first (x ∷ xs) order =
@@ -260,18 +236,15 @@ noted_at r now (s ∷ seen) key order =
     passed false true rest later h ih = refl
     passed false false rest later h ih = ih
 
-    -- If the key of the note `s` comes before that of the row `r`, these two keys aren't both `key`.
     not_both : is_before s.key r.key ≡ true → same_key s.key key ≡ true → same_key r.key key ≡ true → ⊥
-    not_both before sk rk =
+    not_both is_earlier sk rk =
         apart (same_key s.key r.key)
         (subst (λ k. same_key s.key k ≡ true) (same_ref s.key key sk ∙ sym (same_ref r.key key rk)) (own s.key))
-        (not_same s.key r.key before)
+        (not_same s.key r.key is_earlier)
       where
         own : (k : ShardRef) → same_key s.key s.key ≡ true
         own k = grind (arith, nat_tests)
 
-    -- If there is no note on the row `r` yet, the new note is found for the key of `r`. For each other key, what was
-    -- found before is still found.
     new : (rk : Bool) → same_key r.key key ≡ rk → is_before r.key s.key ≡ true
         → cond rk (Some (first_note r now)) (seen_at (s ∷ seen) key)
         ≡ (if rk then with_sight r now (seen_at (s ∷ seen) key) else seen_at (s ∷ seen) key)
@@ -288,21 +261,20 @@ noted_at r now (s ∷ seen) key order =
         ∷ noted (first_note r now) seen else if d then (if s.counter == r.counter then s else first_note r now)
         ∷ seen else first_note r now ∷ s ∷ seen) key
         ≡ (if same_key r.key key then with_sight r now (seen_at (s ∷ seen) key) else seen_at (s ∷ seen) key)
-    head true d before same ih =
+    head true d is_earlier same ih =
         passed (same_key r.key key) (same_key s.key key) (seen_at seen key)
-        (seen_at (noted (first_note r now) seen) key) (not_both before) ih
-    head false true before same ih =
+        (seen_at (noted (first_note r now) seen) key) (not_both is_earlier) ih
+    head false true is_earlier same ih =
         split_head (s.counter == r.counter)
         ∙ kept (same_key r.key key) (same_key s.key key) (s.counter == r.counter) (seen_at seen key)
         (same_left true same)
         ∙ ap (λ o. if same_key r.key key then o else cond (same_key s.key key) (Some s) (seen_at seen key))
         (sym (sight_of (same_key s.key key) (seen_at seen key)))
-    head false false before same ih = new (same_key r.key key) refl (after_else s.key r.key before same)
+    head false false is_earlier same ih = new (same_key r.key key) refl (after_else s.key r.key is_earlier same)
 
 -- ---- All rows
 
--- Assume that the keys of the notes rise. After the rows were seen one after another, the note that is found for a key
--- is the one of the definitions (`after_rows`).
+-- Notes in a list and notes as a function agree after all rows.
 pub noted_all_at : (rows : List Row) (now : ℕ) (seen : List Seen) (key : ShardRef) → AreInOrder seen
     → seen_at (noted_all rows now seen) key ≡ after_rows rows now (seen_at seen) key
 noted_all_at [] now seen key order = refl

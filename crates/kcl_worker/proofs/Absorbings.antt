@@ -1,6 +1,4 @@
--- After the answer to a command of a worker, the worker with the fields that the code has written stands for its record
--- with this answer added. The record is the list of the worker's events. `stands` says which processor calls a
--- processor stands for.
+-- After each answer, the worker with its new fields stands for its trace with the answer added.
 use Rattle.std.proofs.Common.{◌≡◌, ℕ, ◌++◌, Bool, List, ◌∷◌, Option, Some, None, refl, sym, ap, subst, ◌∙◌}
 use Rattle.std.specs.Prelude.{Result}
 use Rattle.std.specs.Option.{option_map}
@@ -29,16 +27,12 @@ use Rattle.kcl_worker.proofs.Happenings.{answered_stand, lost_stand}
 use Rattle.kcl_worker.proofs.Outlooks.{IsFoundSo, found_so}
 use Rattle.kcl_worker.proofs.Standings.{settled_shows}
 
--- If the worker's fields say that the command of the chore `chore` waits for its answer, then a command waits in the
--- record too, and its chore is `chore`.
 waits_for : (o : Option Pending) (chore : Chore) → Some chore ≡ option_map (λ p. p.chore) o
     → (p : Pending) × (o ≡ Some p) × (p.chore ≡ chore)
 waits_for None chore e = absurd cc
 waits_for (Some p) chore e = (p, refl, cc)
 
--- The answer to the command of the chore `chore` came, and `new` is `w` with new fields and with the consumers that are
--- over retired. If the new fields agree with the state after this answer, `new` stands for the record `past` with the
--- answer added.
+-- It is enough that the new fields agree with the state after the answer.
 pub absorbed_stands : {P F : Type 0} (stands : P → List Call → Type 0) (w new : WorkerStanding P F) (now : ℕ)
     (answer : Result Reply Refusal) (chore : Chore) (round : Round) (seen : List Seen) (held : List Held)
     (consumers : List (ConsumerValue P)) (maker : F) (past : WorkerPast) → w.waiting ≡ Some chore
@@ -63,21 +57,19 @@ absorbed_stands {P} {F} stands w new now answer chore round seen held consumers 
     let s : WorkerState = worker_after w.made past in
     let p = waits_for s.waiting chore (sym waits ∙ st.shows.waiting) in
     let S : WorkerStanding P F → Type 0 = λ v. StandsFor stands v (Got_answer now answer ∷ past) in
-    let before : WorkerStanding P F =
+    let old : WorkerStanding P F =
     record w { round = round; waiting = None; seen = seen; held = held; consumers = consumers; maker = maker } in
-    let T : WorkerState → Type 0 = λ t. ShowsState stands (settled_in before) t in
+    let T : WorkerState → Type 0 = λ t. ShowsState stands (settled_in old) t in
     subst S (sym is) (record {
       orderly = (tt, st.orderly);
       shows =
           subst T (ap (λ c. after_retiring (after_chore w.made now answer c (record s { waiting = None }))) (sym p.2)
           ∙ ap (λ o. absorbed w.made now answer s o) (sym p.1))
-          (settled_shows stands before _ (leads s st.shows));
+          (settled_shows stands old _ (leads s st.shows));
     })
 
 -- ---- Chores
 
--- If the worker `w` agrees with the state `s` (`ShowsState`), `w` and `s` still agree after the answer to a step of the
--- sync plan: the steps `syncs` and `takes` are left, and no command waits.
 pub synced_shows : {P F : Type 0} (stands : P → List Call → Type 0) (w : WorkerStanding P F) (s : WorkerState)
     (syncs : List SyncStep) (takes : List TakeStep) → ShowsState stands w s
     → ShowsState stands (record w { round = AtSync syncs takes; waiting = None })
@@ -91,8 +83,6 @@ synced_shows stands w s syncs takes h = record {
   retired = h.retired;
 }
 
--- If the worker `w` agrees with the state `s` (`ShowsState`), `w` and `s` still agree after the answer to a freeing:
--- the lease `id` is dropped, and no command waits.
 pub freed_shows : {P F : Type 0} (stands : P → List Call → Type 0) (w : WorkerStanding P F) (s : WorkerState)
     (id : TenancyId) → ShowsState stands w s
     → ShowsState stands (record w { waiting = None; held = without_held id w.held })
@@ -106,8 +96,6 @@ freed_shows stands w s id h = record {
   retired = h.retired;
 }
 
--- If the worker `w` agrees with the state `s` (`ShowsState`), `w` and `s` still agree after the answer to a Give at a
--- stop: the first consumer of the lease `id` took the answer, and no command waits.
 pub finished_shows : {P F : Type 0} (stands : P → List Call → Type 0) (w : WorkerStanding P F) (s : WorkerState)
     (id : TenancyId) (answer : Result Reply Refusal) → ShowsState stands w s
     → ShowsState stands (record w { waiting = None; consumers = answered_among id answer w.consumers })
@@ -121,8 +109,6 @@ finished_shows stands w s id answer h = record {
   retired = h.retired;
 }
 
--- If the consumer `o` was found in the code and the consumer `k` in the record (`IsFoundSo`), `o` and `k` are in the
--- same stage. If neither exists, the stage is `Opening` for each.
 stage_found : {P : Type 0} (o : Option (ConsumerValue P)) (k : Option Known) → IsFoundSo o k
     → stage_or_opening o ≡ stage_in k
 stage_found None None f = refl
@@ -138,8 +124,6 @@ kept_found id (Some c) (Some k) held f = ap (λ p. kept_unless_over id (Some (re
 kept_found id None (Some k) held f = absurd f
 kept_found id (Some c) None held f = absurd f
 
--- If the worker `w` agrees with the state `s` (`ShowsState`), `w` and `s` still agree after the answer to a command of
--- the consumer of the lease `id`.
 pub consumed_shows : {P F : Type 0} (stands : P → List Call → Type 0) (w : WorkerStanding P F) (s : WorkerState)
     (now : ℕ) (id : TenancyId) (answer : Result Reply Refusal) → ShowsState stands w s
     → ShowsState stands (record w {
@@ -173,9 +157,6 @@ consumed_shows stands w s now id answer h =
 
 -- ---- The fields that the code has written. `w` and `old` are the worker before the answer
 
--- The answer to the command of the chore `chore` came, and the new fields agree with the state after this answer. Then
--- the worker with these fields, and with the consumers that are over retired, stands for its record with the answer
--- added.
 pub absorbed_leaves : {P F : Type 0} (stands : P → List Call → Type 0) (w old : WorkerStanding P F) → w ≡ old
     → (now : ℕ) (answer : Result Reply Refusal) (chore : Chore) (round : Round) (held : List Held)
     (consumers cs : List (ConsumerValue P)) (rs : List (Retirement P)) (past : WorkerPast) → old.waiting ≡ Some chore
@@ -197,9 +178,6 @@ absorbed_leaves stands w old is now answer chore round held consumers cs rs past
     }) leads
     (subst (λ v. StandsFor stands v past) (sym is) st)
 
--- `t` is the state `s` with the round `round`, no waiting command, the leases `held`, and the consumers for which `cs`
--- stands. If the worker `w` agrees with `s`, then `w` with this round, no waiting command, `held` and `cs` agrees with
--- `t`.
 left_shows : {P F : Type 0} (stands : P → List Call → Type 0) (w : WorkerStanding P F) (s t : WorkerState)
     (round : Round) (held : List Held) (cs : List (ConsumerValue P)) → ShowsState stands w s
     → Leaves stands (record s { waiting = None; round = round }) t held cs
@@ -213,8 +191,6 @@ left_shows stands w s t round held cs h l = record {
   retired = subst (λ ks. RetirementsStand stands w.retired ks) (sym l.retired) h.retired;
 }
 
--- After the answer to the renewal of the lease `h`, the worker with the leases and consumers to which the answer leads
--- stands for its record with this answer added.
 pub renewal_leaves : {P F : Type 0} (stands : P → List Call → Type 0) (w old : WorkerStanding P F) → w ≡ old
     → (now : ℕ) (answer : Result Reply Refusal) (h : Held) (id : TenancyId) (held : List Held)
     (consumers cs : List (ConsumerValue P)) (rs : List (Retirement P)) (past : WorkerPast) → id ≡ id_of_held h
@@ -242,8 +218,6 @@ renewal_leaves stands w old is now answer h id held consumers cs rs past same wa
     left_shows stands w s _ (AtRenewals (Some (id_of_held h))) held consumers shows
     (leaves (record s { waiting = None; round = AtRenewals (Some (id_of_held h)) }) shows.held shows.consumers)) st)
 
--- An answer to a command of the consumer of the lease `id` came. The worker with the leases and consumers to which this
--- answer leads stands for its record with the answer added.
 pub consumer_leaves : {P F : Type 0} (stands : P → List Call → Type 0) (w old : WorkerStanding P F) → w ≡ old
     → (now : ℕ) (answer : Result Reply Refusal) (id : TenancyId) (held : List Held)
     (consumers cs : List (ConsumerValue P))
@@ -265,8 +239,6 @@ consumer_leaves stands w old is now answer id held consumers cs rs past waits a 
     (λ i. record w { round = AtConsumers (Some id); waiting = None; held = sym a i; consumers = sym b i })
     (consumed_shows stands w s now id answer shows)) st
 
--- After a stopped worker got the answer to the Give of the consumer of the lease `id`, the worker stands for its record
--- with this answer added.
 pub give_leaves : {P F : Type 0} (stands : P → List Call → Type 0) (w old : WorkerStanding P F) → w ≡ old
     → (now : ℕ) (answer : Result Reply Refusal) (id : TenancyId) (consumers cs : List (ConsumerValue P))
     (rs : List (Retirement P)) (past : WorkerPast) → old.waiting ≡ Some (Finishing id)
@@ -280,8 +252,6 @@ give_leaves stands w old is now answer id consumers cs rs past waits b live over
     (λ i. record w { waiting = None; consumers = sym b i })
     (finished_shows stands w s id answer shows)) st
 
--- After the answer to the freeing of the lease `h`, the worker without this lease stands for its record with this
--- answer added.
 pub freeing_leaves : {P F : Type 0} (stands : P → List Call → Type 0) (w old : WorkerStanding P F) → w ≡ old
     → (now : ℕ) (answer : Result Reply Refusal) (h : Held) (held : List Held) (cs : List (ConsumerValue P))
     (rs : List (Retirement P)) (past : WorkerPast) → old.waiting ≡ Some (Freeing h)
@@ -296,16 +266,15 @@ freeing_leaves stands w old is now answer h held cs rs past waits a live over st
     (λ i. record w { waiting = None; held = sym a i })
     (freed_shows stands w s (id_of_held h) shows)) st
 
--- If the renewal of the lease `h` was refused, `after_renewal` leads to the leases `held` without `h`, and to the
--- consumers `cs` after the consumer of `h` has learnt of the loss.
+-- A refused renewal drops the lease, and its consumer learns of the loss.
 pub refused_leaves : {P : Type 0} (stands : P → List Call → Type 0) (s : WorkerState) (now : ℕ) (h : Held)
     (answer : Result Reply Refusal) (loss : Bool) (id : TenancyId) (held held' : List Held)
     (cs cs' : List (ConsumerValue P))
     → id ≡ id_of_held h → after_renewal now h answer s ≡ renewal_by now h (row_answer.Refused loss) s
     → held' ≡ without_held id held → cs' ≡ lost_among (λ i. same_id i id) cs → held ≡ s.held
     → ConsumersStand stands cs s.consumers → Leaves stands s (after_renewal now h answer s) held' cs'
-refused_leaves stands s now h answer loss id held held' cs cs' same by a b e stand =
-    subst (λ t. Leaves stands s t held' cs') (sym by) (record {
+refused_leaves stands s now h answer loss id held held' cs cs' same is_by a b e stand =
+    subst (λ t. Leaves stands s t held' cs') (sym is_by) (record {
       held_so = a ∙ ap (λ i. without_held i held) same ∙ ap (without_held (id_of_held h)) e;
       consumers = subst (λ ds.
           ConsumersStand stands ds (happens_to (λ k. same_id (id_of k) (id_of_held h)) Losing s.consumers))

@@ -13,7 +13,6 @@ use Rattle.kcl_consumer.specs.Standing.{ConsumerValue}
 use Rattle.kcl_worker_lists.specs.Changes.{FirstCalled, is_over_in, live_among}
 use Rattle.kcl_worker_lists.specs.Lists.{due_count, is_due}
 
--- After the processor call that is due in the stage `p` has returned, no call is due in the new stage.
 pub not_again : (made : Tenancy) (a : Ask) (p : Stage) → is_some (due_call p) ≡ true
     → is_some (due_call (after_call made a p)) ≡ false
 not_again made a Opening h = absurd cc
@@ -21,7 +20,7 @@ not_again made a Starting h = refl
 not_again made a (Filling reach waiting) h = absurd cc
 not_again made a (Holding reach waiting) h = refl
 not_again made a (Giving reach waiting asked lost) h = absurd cc
-not_again made a (Marking reach waiting to) h = absurd cc
+not_again made a (Marking reach waiting target) h = absurd cc
 not_again made a Ending h = refl
 not_again made a MarkingEnd h = absurd cc
 not_again made a (Leaving why) h = refl
@@ -65,10 +64,8 @@ count_quiet : {P : Type 0} (c : ConsumerValue P) (cs : List (ConsumerValue P)) �
     → due_count (c ∷ cs) ≡ due_count cs
 count_quiet c cs h = ap (λ b. length (cond b (c ∷ filter is_due cs) (filter is_due cs))) h
 
--- After the first due processor call has returned, and the consumers that are over were retired, fewer processor calls
--- are due than before.
-pub fewer_due : {P : Type 0} (stands : P → List Call → Type 0) (asks : P → List Stored → Ask
-    → Type 0) (asked : Ask) (old new settled : List (ConsumerValue P)) → FirstCalled stands asks asked old new
+pub fewer_due : {P : Type 0} (stands : P → List Call → Type 0) (asks : P → List Stored → Ask → Type 0) (asked : Ask)
+    (old new settled : List (ConsumerValue P)) → FirstCalled stands asks asked old new
     → settled ≡ live_among new → due_count settled < due_count old
 fewer_due stands asks asked old new settled f is =
     let quiet : is_due f.called ≡ false =

@@ -1,5 +1,4 @@
--- The next command that the code chooses is the one that comes next after the worker's record, which is the list of the
--- worker's events. `stands` says which processor calls a processor stands for.
+-- The command that the code chooses is the next one after the worker's trace.
 use Rattle.std.proofs.Common.{◌≡◌, ℕ, ◌<◌, ◌≤◌, suc, get_or, drop, length, Bool, true, false, List, [], ◌∷◌, Option}
 use Rattle.std.proofs.Common.{Some, None, refl, sym, ap, subst, ◌∙◌, arith}
 use Rattle.std.specs.Prelude.{◌==◌, ◌&&◌, ◌||◌, cond, is_some, not}
@@ -23,6 +22,7 @@ use Rattle.kcl_defs.specs.Workers.{Consuming, Finishing, Freeing, chore_from, co
 use Rattle.kcl_defs.specs.Workers.{counter_of, freeing_chore, from_consumers, id_of, is_giving, is_giving_stage}
 use Rattle.kcl_defs.specs.Workers.{is_nothing_held, is_past, is_stopping, known_of, next_pending, pending_chore}
 use Rattle.kcl_defs.specs.Workers.{pending_of, stage_of_known, same_id, stopping_chore, worker_after}
+use Rattle.kcl_defs.proofs.FineLemmas.{own_id}
 use Rattle.kcl_consumer.specs.Standing.{ConsumerValue}
 use Rattle.kcl_worker.specs.declared.round.Awaited.{Awaited}
 use Rattle.kcl_worker.specs.declared.round.Awaited.TheVariants as awaited
@@ -36,18 +36,16 @@ use Rattle.kcl_worker.proofs.Happenings.{stage_known}
 
 -- ---- The same consumer is found in the code and in the record
 
--- Either no consumer was found in the code and none in the record, or one was found in each. In the second case, the
--- two consumers were made with the same values and are in the same stage.
+-- Both searches found nothing, or consumers with the same values and stage.
 abbrev pub IsFoundSo : {P : Type 0} → Option (ConsumerValue P) → Option Known → Type 0
 IsFoundSo None None = Unit {0}
 IsFoundSo (Some c) (Some k) = (c.made ≡ k.made) × (c.stage ≡ stage_of_known k)
 IsFoundSo None (Some k) = ⊥
 IsFoundSo (Some c) None = ⊥
 
--- `t` is a test of a lease and a stage. The first consumer of the code for which `t` is true matches the first consumer
--- of the record for which `t` is true (`IsFoundSo`).
-pub found_so : {P : Type 0} (stands : P → List Call → Type 0) (t : TenancyId → Stage
-    → Bool) (cs : List (ConsumerValue P))
+-- The same search in code and trace finds matching consumers.
+pub found_so : {P : Type 0} (stands : P → List Call → Type 0) (t : TenancyId → Stage → Bool)
+    (cs : List (ConsumerValue P))
     (ks : List Known) → ConsumersStand stands cs ks
     → IsFoundSo (find (λ c. t (id_in c) c.stage) cs) (find (λ k. t (id_of k) (stage_of_known k)) ks)
 found_so stands t [] [] s = tt
@@ -88,7 +86,6 @@ same_numbers a b c d e f h =
     three c f true h = grind (arith, nat_tests)
     three c f false h = absurd cc
 
--- A test of lease identities gives the same result for two equal identities.
 pub same_test : (t : TenancyId → Bool) (a b : TenancyId) → same_id a b ≡ true → t a ≡ t b
 same_test t a b h =
     let e = same_numbers a.key.stream a.key.shard a.tenure b.key.stream b.key.shard b.tenure h in
@@ -96,10 +93,6 @@ same_test t a b h =
     ∙ ap (λ n. t (record { key = record { stream = b.key.stream; shard = n }; tenure = a.tenure })) e.1
     ∙ ap (λ n. t (record { key = b.key; tenure = n })) e.2
 
-own_id : (a b c : ℕ) → ((a == a) && (b == b) && (c == c)) ≡ true
-own_id a b c = grind (arith, nat_tests)
-
--- If `k` is the first consumer for whose lease `t` is true, `k` is also the first consumer of its lease.
 pub by_id : (t : TenancyId → Bool) (k : Known) (ks : List Known) → find (λ j. t (id_of j)) ks ≡ Some k
     → (known_of (id_of k) ks ≡ Some k) × (t (id_of k) ≡ true)
 by_id t k [] h = absurd cc
@@ -128,7 +121,6 @@ by_id t k (x ∷ xs) h = head (t (id_of x)) refl h (λ g. by_id t k xs g)
 
 -- ---- A fact about all consumers holds of the one that is found
 
--- If `P` holds for all items of a list, `P` holds for an item that is found in the list.
 pub all_found : {A : Type 0} (P : A → Type 0) (t : A → Bool) (x : A) (xs : List A) → find t xs ≡ Some x
     → AllByRecursion P xs → P x
 all_found P t x [] h all = absurd cc
@@ -141,7 +133,6 @@ all_found {A} P t x (y ∷ ys) h all = head (t y) h (λ g. all_found P t x ys g 
     head true g rest = subst P (same y x g) all.0
     head false g rest = rest g
 
--- If no processor call is due and no consumer is over, each consumer is ready for its next command (`IsReady`).
 pub ready : {P : Type 0} (cs : List (ConsumerValue P)) → due_in cs ≡ None
     → AllByRecursion (λ c. over_at c.stage ≡ None) cs
     → AllByRecursion IsReady cs
@@ -155,25 +146,23 @@ ready (c ∷ cs) none all = head (due_call c.stage) refl none (λ n. ready cs n 
 
 -- ---- A consumer's command
 
--- If the worker's round has come to the consumers, and `c` is the first consumer after the lease `last`, then the next
--- command of `c` is the worker's next command.
 pub consumer_given : {P : Type 0} (stands : P → List Call → Type 0) (made : WorkerMade) (s : WorkerState)
     (syncs : List SyncStep) (takes : List TakeStep) (last : Option TenancyId) (cs : List (ConsumerValue P))
     (held : List Held)
-    (c : ConsumerValue P) (what : Command) → ConsumersStand stands cs s.consumers → held ≡ s.held
+    (c : ConsumerValue P) (asked : Command) → ConsumersStand stands cs s.consumers → held ≡ s.held
     → past_in last cs ≡ Some c
-    → next_command c.made c.stage (counter_of (id_in c) held) ≡ Some what
-    → IsGiven made s syncs takes (Some (from_consumers last s)) (awaited.Consume (id_in c)) what
-consumer_given {P} stands made s syncs takes last cs held c what stand same found next =
+    → next_command c.made c.stage (counter_of (id_in c) held) ≡ Some asked
+    → IsGiven made s syncs takes (Some (from_consumers last s)) (awaited.Consume (id_in c)) asked
+consumer_given {P} stands made s syncs takes last cs held c asked stand same found next =
     go (find (λ k. is_past last (id_of k)) s.consumers) refl
     (subst (λ o. IsFoundSo o (find (λ k. is_past last (id_of k)) s.consumers)) found
     (found_so stands (λ id p. is_past last id) cs s.consumers stand))
   where
     go : (o : Option Known) → find (λ k. is_past last (id_of k)) s.consumers ≡ o → IsFoundSo (Some c) o
-        → IsGiven made s syncs takes (Some (consumer_chore o)) (awaited.Consume (id_in c)) what
+        → IsGiven made s syncs takes (Some (consumer_chore o)) (awaited.Consume (id_in c)) asked
     go None e f = absurd f
     go (Some k) e f =
-        let of_known : next_command k.made (stage_of_known k) (counter_of (id_of k) s.held) ≡ Some what =
+        let of_known : next_command k.made (stage_of_known k) (counter_of (id_of k) s.held) ≡ Some asked =
         ap (λ h. next_command k.made (stage_of_known k) (counter_of (id_of k) h)) (sym same)
         ∙ ap (λ p. next_command k.made p (counter_of (id_of k) held)) (sym f.1)
         ∙ ap (λ m. next_command m c.stage (counter_of (record { key = m.key; tenure = m.tenure }) held)) (sym f.0)
@@ -185,7 +174,7 @@ consumer_given {P} stands made s syncs takes last cs held c what stand same foun
           command = ap (λ o. consumer_command s o) (by_id (is_past last) k s.consumers e).0 ∙ of_known;
         }
 
--- If the worker's round has come to the consumers, and no consumer comes after the lease `last`, a survey comes next.
+-- After the last consumer, a survey comes next.
 pub survey_given : {P : Type 0} (stands : P → List Call → Type 0) (made : WorkerMade) (s : WorkerState)
     (syncs : List SyncStep) (takes : List TakeStep) (last : Option TenancyId) (cs : List (ConsumerValue P))
     → ConsumersStand stands cs s.consumers → past_in last cs ≡ None
@@ -202,7 +191,6 @@ survey_given {P} stands made s syncs takes last cs stand found =
 
 -- ---- At a stop
 
--- If the worker is stopped, and `c` is the first consumer whose next command is a Give, then this Give comes next.
 pub giving_given : {P : Type 0} (stands : P → List Call → Type 0) (made : WorkerMade) (s : WorkerState)
     (syncs : List SyncStep) (takes : List TakeStep) (cs : List (ConsumerValue P)) (c : ConsumerValue P)
     → ConsumersStand stands cs s.consumers → giving_in cs ≡ Some c
@@ -235,8 +223,7 @@ none_giving {P} stands s cs stand found =
     go None f = refl
     go (Some k) f = absurd f
 
--- If the worker is stopped, no consumer's next command is a Give, and `h` is the first lease, then the freeing of `h`
--- comes next.
+-- A stopped worker without a Give frees its first lease.
 pub freeing_given : {P : Type 0} (stands : P → List Call → Type 0) (made : WorkerMade) (s : WorkerState)
     (syncs : List SyncStep) (takes : List TakeStep) (cs : List (ConsumerValue P)) (held : List Held) (h : Held)
     (rest : List Held) → ConsumersStand stands cs s.consumers → held ≡ s.held → giving_in cs ≡ None → held ≡ h ∷ rest
@@ -249,8 +236,7 @@ freeing_given stands made s syncs takes cs held h rest stand same found first = 
   command = refl;
 }
 
--- If the worker is stopped, no consumer's next command is a Give, and the worker has no lease, then no command comes
--- next.
+-- A stopped worker without a Give or a lease has no next command.
 pub nothing_given : {P : Type 0} (stands : P → List Call → Type 0) (s : WorkerState) (cs : List (ConsumerValue P))
     (held : List Held) → ConsumersStand stands cs s.consumers → held ≡ s.held → giving_in cs ≡ None → held ≡ []
     → stopping_chore s (find is_giving s.consumers) ≡ None
@@ -259,22 +245,20 @@ nothing_given stands s cs held stand same found none =
 
 -- ---- A command is given
 
-none_mapped : (o : Option Pending) → None ≡ option_map (λ p. p.chore) o → o ≡ None
+pub none_mapped : (o : Option Pending) → None ≡ option_map (λ p. p.chore) o → o ≡ None
 none_mapped None e = refl
 none_mapped (Some p) e = absurd cc
 
--- `awaited` and `what` are the next chore of the worker `w` and this chore's command, and in `new` this command waits
--- for its answer. If `w` stands for the record `past`, `new` stands for `past` with the command added.
 pub asked_stands : {P F : Type 0} (stands : P → List Call → Type 0) (w new : WorkerStanding P F) (now : ℕ)
-    (syncs : List SyncStep) (takes : List TakeStep) (awaited : Awaited) (what : Command) (past : WorkerPast)
+    (syncs : List SyncStep) (takes : List TakeStep) (awaited : Awaited) (asked : Command) (past : WorkerPast)
     → w.waiting ≡ None → new ≡ record w { waiting = chore_of awaited syncs takes }
     → IsGiven w.made (worker_after w.made past) syncs takes
-    (chore_from w.made.settings.failover now (worker_after w.made past) w.round) awaited what → StandsFor stands w past
-    → (p : Pending) × (next_pending w.made now (worker_after w.made past) ≡ Some p) × (p.what ≡ what)
+    (chore_from w.made.settings.failover now (worker_after w.made past) w.round) awaited asked → StandsFor stands w past
+    → (p : Pending) × (next_pending w.made now (worker_after w.made past) ≡ Some p) × (p.what ≡ asked)
     × StandsFor stands new (Gave_command now ∷ past)
-asked_stands {P} {F} stands w new now syncs takes awaited what past free is g st =
+asked_stands {P} {F} stands w new now syncs takes awaited asked past free is g st =
     let s : WorkerState = worker_after w.made past in
-    let p : Pending = record { chore = g.which; what = what } in
+    let p : Pending = record { chore = g.which; what = asked } in
     let next : next_pending w.made now s ≡ Some p =
     ap (λ r. pending_chore w.made s (chore_from w.made.settings.failover now s r)) (sym st.shows.round)
     ∙ ap (λ o. pending_chore w.made s o) g.is
@@ -298,7 +282,6 @@ asked_stands {P} {F} stands w new now syncs takes awaited what past free is g st
 
 -- ---- Lists, by their first element
 
--- A list with less than one item is empty.
 pub empty_list : {X : Type 0} (xs : List X) → length xs < 1 → xs ≡ []
 empty_list [] h = refl
 empty_list (x ∷ xs) h = absurd (none (length xs) h)
@@ -306,7 +289,6 @@ empty_list (x ∷ xs) h = absurd (none (length xs) h)
     none : (n : ℕ) → suc n < 1 → ⊥
     none n h = omega arith
 
--- A list with at least one item consists of the item at the index 0 and the items after it.
 pub first_list : {X : Type 0} (xs : List X) (x : X) → 1 ≤ length xs → x ≡ get_or xs 0 x → xs ≡ x ∷ drop 1 xs
 first_list [] x h e = absurd (none h)
   where
@@ -314,8 +296,7 @@ first_list [] x h e = absurd (none h)
     none h = omega arith
 first_list (y ∷ ys) x h e = ap (λ z. z ∷ ys) (sym e)
 
--- If the worker is stopped, and `c` is the first consumer whose next command is a Give, then this Give comes next. `id`
--- is the lease of `c`, and `t` is the tenure of `c`.
+-- A stopped worker's next command is its first consumer's Give.
 pub giving_as : {P : Type 0} (stands : P → List Call → Type 0) (made : WorkerMade) (s : WorkerState)
     (syncs : List SyncStep) (takes : List TakeStep) (cs : List (ConsumerValue P)) (c : ConsumerValue P) (id : TenancyId)
     (t : ℕ)
@@ -328,18 +309,17 @@ giving_as stands made s syncs takes cs c id t a b stand found =
     (command.Give n)) (sym b)
     (giving_given stands made s syncs takes cs c stand found))
 
--- If the worker's round has come to the consumers, and `c` is the first consumer after the lease `last`, then the next
--- command of `c` is the worker's next command. `id` is the lease of `c`, and `counter` is this lease's counter.
+-- In the consumers' part of the round, the command of the first one after `last` comes next.
 pub consumer_as : {P : Type 0} (stands : P → List Call → Type 0) (made : WorkerMade) (s : WorkerState)
     (syncs : List SyncStep) (takes : List TakeStep) (last : Option TenancyId) (cs : List (ConsumerValue P))
     (held : List Held)
-    (c : ConsumerValue P) (id : TenancyId) (counter : ℕ) (what : Command) → id ≡ id_in c → counter ≡ counter_of id held
+    (c : ConsumerValue P) (id : TenancyId) (counter : ℕ) (asked : Command) → id ≡ id_in c → counter ≡ counter_of id held
     → ConsumersStand stands cs s.consumers → held ≡ s.held → past_in last cs ≡ Some c
-    → next_command c.made c.stage counter ≡ Some what
-    → IsGiven made s syncs takes (Some (from_consumers last s)) (awaited.Consume id) what
-consumer_as stands made s syncs takes last cs held c id counter what a b stand same found next =
-    subst (λ i. IsGiven made s syncs takes (Some (from_consumers last s)) (awaited.Consume i) what) (sym a)
-    (consumer_given stands made s syncs takes last cs held c what stand same found
+    → next_command c.made c.stage counter ≡ Some asked
+    → IsGiven made s syncs takes (Some (from_consumers last s)) (awaited.Consume id) asked
+consumer_as stands made s syncs takes last cs held c id counter asked a b stand same found next =
+    subst (λ i. IsGiven made s syncs takes (Some (from_consumers last s)) (awaited.Consume i) asked) (sym a)
+    (consumer_given stands made s syncs takes last cs held c asked stand same found
     (ap (λ i. next_command c.made c.stage (counter_of i held)) (sym a) ∙ ap (λ n. next_command c.made c.stage n) (sym b)
     ∙ next))
 
@@ -354,7 +334,6 @@ none_due_any (c ∷ cs) none = head (due_call c.stage) none (λ n. none_due_any 
     head None n rest = rest n
     head (Some due) n rest = absurd cc
 
--- If the search finds no item of a list for which `t` is true, `t` is true for no item of the list.
 pub none_found_any : {A : Type 0} (t : A → Bool) (xs : List A) → find t xs ≡ None → list_any t xs ≡ false
 none_found_any t [] none = refl
 none_found_any {A} t (x ∷ xs) none = head (t x) none (λ n. none_found_any t xs n)
@@ -388,7 +367,6 @@ stops_at : (failover now : ℕ) (s : WorkerState) (round : Round) → chore_from
 stops_at failover now s AtStopping none = (refl, none)
 stops_at failover now s _ none = absurd cc
 
--- If no processor call of the worker is due, and the worker has no next chore, it is idle.
 pub idle_so : {P F : Type 0} (stands : P → List Call → Type 0) (w : WorkerStanding P F) (s : WorkerState)
     (failover now : ℕ) → ShowsState stands w s → due_in w.consumers ≡ None → chore_from failover now s w.round ≡ None
     → is_idle_in w ≡ true
@@ -406,25 +384,26 @@ idle_so stands w s failover now shows none chore =
 
 -- ---- The fields that the code has written. `w` and `old` are the worker before
 
--- `awaited` and `what` are the next chore and this chore's command in each state with the worker's consumers and
--- leases. Then the worker that waits for the answer to `what` stands for its record with this command added.
+-- A worker that waits for the next command's answer stands for its trace with the command added.
 pub asked_leaves : {P F : Type 0} (stands : P → List Call → Type 0) (w old : WorkerStanding P F) → w ≡ old
-    → (now : ℕ) (syncs : List SyncStep) (takes : List TakeStep) (awaited : Awaited) (what : Command) (past : WorkerPast)
+    → (now : ℕ) (syncs : List SyncStep) (takes : List TakeStep) (awaited : Awaited) (asked : Command)
+    (past : WorkerPast)
     → old.waiting ≡ None → ((s : WorkerState) → ConsumersStand stands w.consumers s.consumers → w.held ≡ s.held
-    → IsGiven w.made s syncs takes (chore_from w.made.settings.failover now s w.round) awaited what)
+    → IsGiven w.made s syncs takes (chore_from w.made.settings.failover now s w.round) awaited asked)
     → StandsFor stands old past → (p : Pending) × (next_pending old.made now (worker_after old.made past) ≡ Some p)
-    × (p.what ≡ what) × StandsFor stands (record w { waiting = chore_of awaited syncs takes }) (Gave_command now ∷ past)
-asked_leaves {P} {F} stands w old is now syncs takes awaited what past free given st =
+    × (p.what ≡ asked) × StandsFor stands (record w { waiting = chore_of awaited syncs takes })
+    (Gave_command now ∷ past)
+asked_leaves {P} {F} stands w old is now syncs takes awaited asked past free is_given st =
     let st0 : StandsFor stands w past = subst (λ v. StandsFor stands v past) (sym is) st in
     let Q : WorkerStanding P F → Type 0 =
-    λ v. (p : Pending) × (next_pending v.made now (worker_after v.made past) ≡ Some p) × (p.what ≡ what)
+    λ v. (p : Pending) × (next_pending v.made now (worker_after v.made past) ≡ Some p) × (p.what ≡ asked)
     × StandsFor stands (record w { waiting = chore_of awaited syncs takes }) (Gave_command now ∷ past) in
     subst Q is
-    (asked_stands stands w (record w { waiting = chore_of awaited syncs takes }) now syncs takes awaited what past
+    (asked_stands stands w (record w { waiting = chore_of awaited syncs takes }) now syncs takes awaited asked past
     (ap (λ v. v.waiting) is ∙ free) refl
-    (given (worker_after w.made past) st0.shows.consumers st0.shows.held) st0)
+    (is_given (worker_after w.made past) st0.shows.consumers st0.shows.held) st0)
 
--- If no processor call of the worker is due, and the worker isn't idle, it has a next chore.
+-- A worker that isn't idle and has no due call has a next chore.
 pub none_left : {P F : Type 0} (stands : P → List Call → Type 0) (w old : WorkerStanding P F) → w ≡ old
     → (now : ℕ) (past : WorkerPast) → due_in old.consumers ≡ None → is_idle_in old ≡ false
     → ((s : WorkerState) → ConsumersStand stands w.consumers s.consumers → w.held ≡ s.held
@@ -439,7 +418,6 @@ none_left stands w old is now past none busy left st =
 
 -- ---- What callers see of a worker, and its record
 
--- If no processor call is due for the consumers of the code, none is due for the consumers of the record.
 pub none_due : {P : Type 0} (stands : P → List Call → Type 0) (cs : List (ConsumerValue P)) (ks : List Known)
     → due_in cs ≡ None → ConsumersStand stands cs ks → find is_due_known ks ≡ None
 none_due stands [] [] none s = refl
@@ -466,7 +444,6 @@ any_same stands f (c ∷ cs) (k ∷ ks) s =
     ap (λ p. f p || list_any (λ d. f d.stage) cs) (stage_known stands c k (s.0, s.1))
     ∙ ap (λ r. f (stage_of_known k) || r) (any_same stands f cs ks s.2)
 
--- The worker `w` is idle, as callers see it, exactly if it is idle in the state after its record.
 pub idle_same : {P F : Type 0} (stands : P → List Call → Type 0) (w : WorkerStanding P F) (past : WorkerPast)
     → StandsFor stands w past → is_idle_in w ≡ is_idle (worker_after w.made past)
 idle_same stands w past s =

@@ -1,4 +1,4 @@
--- The processors of a worker were called for the given reads of their tenures, since the worker stands for its record.
+-- The processors were called for the given reads of their tenures.
 use Rattle.std.proofs.Common.{ℕ, List, [], ◌∷◌, sym, subst}
 use Rattle.std.specs.List.{AllByRecursion}
 use Rattle.kds_defs.specs.declared.command.Turn.{Turn}
@@ -13,40 +13,44 @@ use Rattle.kcl_worker_lists.specs.Lists.{Retirement}
 use Rattle.kcl_worker.specs.Standing.{WorkerStanding, ConsumersStand, RetirementsStand, StandsFor, IsRetiredIn}
 use Rattle.kcl_worker.specs.Standing.{IsServedIn, AreServedIn}
 
-consumers_served : {P : Type 0} (stands : P → List Call → Type 0) (by : ℕ) (h : List Turn) (cs : List (ConsumerValue P))
-    (ks : List Known) → ConsumersStand stands cs ks → AllByRecursion (IsServed by h) ks
-    → AllByRecursion (IsServedIn stands by h) cs
-consumers_served stands by h [] [] s all = tt
-consumers_served stands by h (c ∷ cs) (k ∷ ks) s all =
+consumers_served : {P : Type 0} (stands : P → List Call → Type 0) (actor : ℕ) (h : List Turn)
+    (cs : List (ConsumerValue P))
+    (ks : List Known) → ConsumersStand stands cs ks → AllByRecursion (IsServed actor h) ks
+    → AllByRecursion (IsServedIn stands actor h) cs
+consumers_served stands actor h [] [] s all = tt
+consumers_served stands actor h (c ∷ cs) (k ∷ ks) s all =
     let calls = subst (λ m. stands c.processor (calls_after m k.past)) s.0 s.1.calls in (
       (
-        subst (IsOfTenure by h) (sym s.0) all.0.0,
-        (calls_after k.made k.past, calls, subst (λ m. IsLifeIn by h m (calls_after k.made k.past)) (sym s.0) all.0.1),
+        subst (IsOfTenure actor h) (sym s.0) all.0.0,
+        (
+          calls_after k.made k.past,
+          calls,
+          subst (λ m. IsLifeIn actor h m (calls_after k.made k.past)) (sym s.0) all.0.1,
+        ),
       ),
-      consumers_served stands by h cs ks s.2 all.1,
+      consumers_served stands actor h cs ks s.2 all.1,
     )
-consumers_served stands by h [] (k ∷ ks) s all = absurd s
-consumers_served stands by h (c ∷ cs) [] s all = absurd s
+consumers_served stands actor h [] (k ∷ ks) s all = absurd s
+consumers_served stands actor h (c ∷ cs) [] s all = absurd s
 
-retired_served : {P : Type 0} (stands : P → List Call → Type 0) (by : ℕ) (h : List Turn) (rs : List (Retirement P))
-    (ks : List Known) → RetirementsStand stands rs ks → AllByRecursion (IsServedWhole by h) ks
-    → AllByRecursion (IsRetiredIn stands by h) rs
-retired_served stands by h [] [] s all = tt
-retired_served stands by h (r ∷ rs) (k ∷ ks) s all = (
+retired_served : {P : Type 0} (stands : P → List Call → Type 0) (actor : ℕ) (h : List Turn) (rs : List (Retirement P))
+    (ks : List Known) → RetirementsStand stands rs ks → AllByRecursion (IsServedWhole actor h) ks
+    → AllByRecursion (IsRetiredIn stands actor h) rs
+retired_served stands actor h [] [] s all = tt
+retired_served stands actor h (r ∷ rs) (k ∷ ks) s all = (
   (k.made, s.0.key, s.0.tenure, all.0.0, (calls_after k.made k.past, s.0.calls, all.0.1)),
-  retired_served stands by h rs ks s.1 all.1,
+  retired_served stands actor h rs ks s.1 all.1,
 )
-retired_served stands by h [] (k ∷ ks) s all = absurd s
-retired_served stands by h (r ∷ rs) [] s all = absurd s
+retired_served stands actor h [] (k ∷ ks) s all = absurd s
+retired_served stands actor h (r ∷ rs) [] s all = absurd s
 
--- The worker `w` stands for the record `past`. If the turns of the actor `by` in the history `h` are the commands of
--- `past`, the processors of `w` were called for the given reads of their tenures (`AreServedIn`).
-pub worker_served : {P F : Type 0} (stands : P → List Call → Type 0) (by : ℕ) (h : List Turn) (w : WorkerStanding P F)
-    (past : WorkerPast) → StandsFor stands w past → IsToldIn by h w.made past → AreServedIn stands by h w
-worker_served stands by h w past s told =
-    let all = are_served by h w.made past s.orderly told in
+pub worker_served : {P F : Type 0} (stands : P → List Call → Type 0) (actor : ℕ) (h : List Turn)
+    (w : WorkerStanding P F)
+    (past : WorkerPast) → StandsFor stands w past → IsToldIn actor h w.made past → AreServedIn stands actor h w
+worker_served stands actor h w past s is_told =
+    let all = are_served actor h w.made past s.orderly is_told in
     record {
-      consumers = consumers_served stands by h w.consumers (worker_after w.made past).consumers s.shows.consumers
+      consumers = consumers_served stands actor h w.consumers (worker_after w.made past).consumers s.shows.consumers
           all.consumers;
-      retired = retired_served stands by h w.retired (worker_after w.made past).retired s.shows.retired all.retired;
+      retired = retired_served stands actor h w.retired (worker_after w.made past).retired s.shows.retired all.retired;
     }

@@ -1,13 +1,11 @@
--- After a processor call or a stop, the worker stands for its record with this call or stop added. The record is the
--- list of the worker's events. `stands` says which processor calls a processor stands for.
-use Rattle.std.proofs.Common.{◌≡◌, true, List, ◌∷◌, ◌++◌, Option, Some, None, Ok, Err, refl, sym, subst, ◌∙◌}
-use Rattle.std.specs.Option.{option_map}
+-- After a processor call or a stop, the worker stands for its trace with it added.
+use Rattle.std.proofs.Common.{◌≡◌, true, List, ◌∷◌, ◌++◌, None, Ok, Err, refl, sym, subst, ◌∙◌}
 use Rattle.std.specs.Prelude.{OnErr, Result}
 use Rattle.kcl_defs.specs.declared.consumer.Ask.{Ask}
 use Rattle.kcl_defs.specs.declared.consumer.Call.{Call}
 use Rattle.kds_defs.specs.declared.reply.Stored.{Stored}
 use Rattle.kcl_defs.specs.Consumers.{Called, Losing}
-use Rattle.kcl_defs.specs.Workers.{AtStopping, Made_call, Pending, Stopped, WorkerPast, WorkerState, happens_to}
+use Rattle.kcl_defs.specs.Workers.{AtStopping, Made_call, Stopped, WorkerPast, WorkerState, happens_to}
 use Rattle.kcl_defs.specs.Workers.{happens_to_first, is_due_known, after_retiring, worker_after}
 use Rattle.kcl_consumer.specs.Standing.{ConsumerValue}
 use Rattle.kcl_worker_lists.specs.Changes.{FirstCalled, FirstUncalled, live_among, lost_among, retired_among}
@@ -16,18 +14,12 @@ use Rattle.kcl_worker_lists.specs.Lists.{Retirement}
 use Rattle.kcl_worker.specs.Standing.{ShowsState, StandsFor, WorkerStanding}
 use Rattle.kcl_worker.proofs.Happenings.{first_called_stand, live_stand, lost_stand, retired_stand, retirements_append}
 use Rattle.kcl_worker.proofs.Happenings.{uncalled_stand}
+use Rattle.kcl_worker.proofs.Outlooks.{none_mapped}
 
-none_mapped : (o : Option Pending) → None ≡ option_map (λ p. p.chore) o → o ≡ None
-none_mapped None e = refl
-none_mapped (Some p) e = absurd cc
-
--- If no command of the worker `w` waits for its answer, none waits in the state `s`, with which `w` agrees.
 pub is_free : {P F : Type 0} (stands : P → List Call → Type 0) (w : WorkerStanding P F) (s : WorkerState)
     → w.waiting ≡ None → ShowsState stands w s → s.waiting ≡ None
 is_free stands w s free shows = none_mapped s.waiting (sym free ∙ shows.waiting)
 
--- If the worker `w` agrees with the state `s` (`ShowsState`), then `w` and `s` still agree after the consumers that are
--- over are retired in each of them.
 pub settled_shows : {P F : Type 0} (stands : P → List Call → Type 0) (w : WorkerStanding P F) (s : WorkerState)
     → ShowsState stands w s → ShowsState stands (settled_in w) (after_retiring s)
 settled_shows stands w s h = record {
@@ -40,8 +32,6 @@ settled_shows stands w s h = record {
       (retired_stand stands w.consumers s.consumers h.consumers);
 }
 
--- `new` is the worker `w` after a stop: all consumers have lost their leases, and those that are over are retired. If
--- `w` stands for the record `past` and no command waits, `new` stands for `past` with this stop added.
 pub stop_stands : {P F : Type 0} (stands : P → List Call → Type 0) (w new : WorkerStanding P F) (past : WorkerPast)
     → w.waiting ≡ None → new
     ≡ settled_in (record w { round = AtStopping; consumers = lost_among (λ id. true) w.consumers })
@@ -63,10 +53,8 @@ stop_stands {P} {F} stands w new past free is st =
           });
     })
 
--- `new` is the worker `w` after its first due processor call has returned and the consumers that are over were retired.
--- If `w` stands for the record `past` and no command waits, `new` stands for `past` with this call added.
-pub call_stands : {P F : Type 0} (stands : P → List Call → Type 0) (asks : P → List Stored → Ask
-    → Type 0) (asked : Ask) (w new : WorkerStanding P F) (cs : List (ConsumerValue P)) (past : WorkerPast)
+pub call_stands : {P F : Type 0} (stands : P → List Call → Type 0) (asks : P → List Stored → Ask → Type 0) (asked : Ask)
+    (w new : WorkerStanding P F) (cs : List (ConsumerValue P)) (past : WorkerPast)
     → w.waiting ≡ None → FirstCalled stands asks asked w.consumers cs → new ≡ settled_in (record w { consumers = cs })
     → StandsFor stands w past → StandsFor stands new (Made_call asked ∷ past)
 call_stands {P} {F} stands asks asked w new cs past free called is st =
@@ -86,10 +74,8 @@ call_stands {P} {F} stands asks asked w new cs past free called is st =
           });
     })
 
--- `new` is the worker `w` after a processor call that ran out of memory. If `w` stands for the record `past`, so does
--- `new`.
-pub uncalled_stands : {P F : Type 0} (stands : P → List Call → Type 0) (asks : P → List Stored → Ask
-    → Type 0) (w new : WorkerStanding P F) (cs : List (ConsumerValue P)) (past : WorkerPast)
+pub uncalled_stands : {P F : Type 0} (stands : P → List Call → Type 0) (asks : P → List Stored → Ask → Type 0)
+    (w new : WorkerStanding P F) (cs : List (ConsumerValue P)) (past : WorkerPast)
     → FirstUncalled stands asks w.consumers cs → new ≡ record w { consumers = cs } → StandsFor stands w past
     → StandsFor stands new past
 uncalled_stands {P} {F} stands asks w new cs past f is st =
@@ -109,7 +95,6 @@ uncalled_stands {P} {F} stands asks w new cs past f is st =
 
 -- ---- The fields that the code has written
 
--- After a stop, the worker with the fields that the code has written stands for its record with the stop added.
 pub stop_leaves : {P F : Type 0} (stands : P → List Call → Type 0) (w : WorkerStanding P F)
     (cs : List (ConsumerValue P))
     (rs : List (Retirement P)) (past : WorkerPast) → w.waiting ≡ None
@@ -120,10 +105,8 @@ stop_leaves stands w cs rs past free live over st =
     stop_stands stands w (record w { round = AtStopping; consumers = cs; retired = rs }) past free
     (λ i. record w { round = AtStopping; consumers = live i; retired = over i }) st
 
--- After the first due processor call has returned, the worker with the fields that the code has written stands for its
--- record with this call added.
-pub call_leaves : {P F : Type 0} (stands : P → List Call → Type 0) (asks : P → List Stored → Ask
-    → Type 0) (asked : Ask) (w : WorkerStanding P F) (called cs : List (ConsumerValue P)) (rs : List (Retirement P))
+pub call_leaves : {P F : Type 0} (stands : P → List Call → Type 0) (asks : P → List Stored → Ask → Type 0) (asked : Ask)
+    (w : WorkerStanding P F) (called cs : List (ConsumerValue P)) (rs : List (Retirement P))
     (past : WorkerPast) → w.waiting ≡ None → FirstCalled stands asks asked w.consumers called → cs ≡ live_among called
     → rs ≡ w.retired ++ retired_among called → StandsFor stands w past
     → StandsFor stands (record w { consumers = cs; retired = rs }) (Made_call asked ∷ past)
@@ -131,7 +114,6 @@ call_leaves stands asks asked w called cs rs past free f live over st =
     call_stands stands asks asked w (record w { consumers = cs; retired = rs }) called past free f
     (λ i. record w { consumers = live i; retired = over i }) st
 
--- If `P` holds, then `P` also holds in case the result is an error.
 pub on_err_so : {A E : Type 0} (P : Type 0) (r : Result A E) → P → OnErr r P
 on_err_so P (Ok x) h = tt
 on_err_so P (Err e) h = h

@@ -1,5 +1,4 @@
--- After the answer to a survey, the worker with the fields that the code has written stands for its record with this
--- answer added. The record is the list of the worker's events. `w` and `old` are the worker before the answer.
+-- After a survey's answer, the worker stands for its trace with the answer added.
 use Rattle.std.proofs.Common.{◌≡◌, ℕ, ◌++◌, List, ◌∷◌, Some, None, Ok, Err, refl, sym, ap, subst, ◌∙◌}
 use Rattle.std.specs.Prelude.{Result}
 use Rattle.std.specs.List.{filter}
@@ -36,9 +35,9 @@ surveyed_shows : {P F : Type 0} (stands : P → List Call → Type 0) (w : Worke
     })
     (after_chore w.made now (Ok (reply.Survey shards rows)) Surveying (record s { waiting = None }))
 surveyed_shows stands w s now shards rows p is h =
-    let before : seen_at w.seen ≡ s.seen = λ i k. h.seen k i in
+    let is_before : seen_at w.seen ≡ s.seen = λ i k. h.seen k i in
     let seen : seen_at p.observed ≡ after_rows rows now s.seen =
-    (λ i k. is.seen_so k i) ∙ ap (after_rows rows now) before in
+    (λ i k. is.seen_so k i) ∙ ap (after_rows rows now) is_before in
     let held : p.held.items ≡ filter (still_stands rows) s.held = is.held_so ∙ ap (filter (still_stands rows)) h.held in
     let lost : p.lost.items ≡ lost_of rows s.held = is.lost_so ∙ ap (lost_of rows) h.held in
     record {
@@ -58,8 +57,7 @@ surveyed_shows stands w s now shards rows p is h =
       retired = h.retired;
     }
 
--- After an answer from which `p` was planned, the worker with the new leases, plans and consumers stands for its record
--- with this answer added.
+-- The answer accepted the survey.
 pub planned_leaves : {P F : Type 0} (stands : P → List Call → Type 0) (w old : WorkerStanding P F) → w ≡ old
     → (now : ℕ) (answer : Result Reply Refusal) (p : Planned) (syncs : List SyncStep) (takes : List TakeStep)
     (consumers cs : List (ConsumerValue P)) (rs : List (Retirement P)) (past : WorkerPast)
@@ -112,8 +110,6 @@ planned_leaves stands w old is now (Ok _) p syncs takes consumers cs rs past wai
 planned_leaves stands w old is now (Err r) p syncs takes consumers cs rs past waits planned a b e live over st =
     absurd planned
 
--- If the worker `w` agrees with the state `s` (`ShowsState`), then `w` without its waiting command agrees with `s`
--- without its waiting command.
 kept_shows : {P F : Type 0} (stands : P → List Call → Type 0) (w : WorkerStanding P F) (s : WorkerState)
     → ShowsState stands w s → ShowsState stands (record w { waiting = None }) (record s { waiting = None })
 kept_shows stands w s h = record {
@@ -133,8 +129,7 @@ unplanned_shows stands w s now (Ok (reply.Survey shards rows)) none h = absurd n
 unplanned_shows stands w s now (Ok _) none h = kept_shows stands w s h
 unplanned_shows stands w s now (Err r) none h = kept_shows stands w s h
 
--- After an answer from which nothing was planned, such as a refusal, the worker stands for its record with this answer
--- added. The waiting command is gone, the consumers that are over are retired, and nothing else has changed.
+-- No plan came from the answer, such as a refusal.
 pub unplanned_leaves : {P F : Type 0} (stands : P → List Call → Type 0) (w old : WorkerStanding P F) → w ≡ old
     → (now : ℕ) (answer : Result Reply Refusal) (cs : List (ConsumerValue P)) (rs : List (Retirement P))
     (past : WorkerPast)

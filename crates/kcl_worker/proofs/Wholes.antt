@@ -1,4 +1,4 @@
--- When the invariant of a worker (`IsWorker`) still holds after a call of one of its functions.
+-- When the invariant `IsWorker` still holds after a call.
 use Rattle.std.proofs.Common.{ℕ, ◌+◌, ◌≤◌, List, Option}
 use Rattle.kcl_defs.specs.declared.consumer.Ask.{Ask}
 use Rattle.kcl_defs.specs.Workers.{Chore}
@@ -8,10 +8,7 @@ use Rattle.kcl_worker.specs.Asks.{AskWithin}
 use Rattle.kcl_worker.specs.Outlook.{IsAsking, NoneOver}
 use Rattle.kcl_worker.specs.Whole.{IsWorker}
 
--- If the invariant of a worker held before a call, four facts are enough for it to hold after the call. No consumer is
--- over. If a command waits for its answer, no processor call is due. The list of retired consumers has room for the
--- retired consumers and the others together. `other` allows everything that the processors may ask for. The names with
--- a prime are those after the call.
+-- Primed names are the values after the call.
 pub still_worker : {P : Type 0} {asks : P → List Stored → Ask → Type 0} {may other : List Stored → Ask → Type 0}
     {name most retired many room retired' many' room' : ℕ} {chore chore' : Option Chore} {cs cs' :
     List (ConsumerValue P)}

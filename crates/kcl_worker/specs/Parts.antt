@@ -1,5 +1,4 @@
--- How the code stores a worker's round and the chore whose command waits for its answer. The steps that are left of the
--- two plans are stored once, apart from the round and the chore.
+-- How the code stores a worker's round and waiting chore: the steps left are stored apart, once.
 use Rattle.std.specs.Prelude.{List, [], ◌∷◌, Option, Some, None}
 use Rattle.kcl_defs.specs.declared.plans.SyncStep.{SyncStep}
 use Rattle.kcl_defs.specs.declared.plans.TakeStep.{TakeStep}
@@ -10,9 +9,8 @@ use Rattle.kcl_worker.specs.declared.round.Part.TheVariants as part
 use Rattle.kcl_worker.specs.declared.round.Awaited.{Awaited}
 use Rattle.kcl_worker.specs.declared.round.Awaited.TheVariants as awaited
 
--- The round of a worker that is at the part in the first argument, with the steps `syncs` and `takes` left of its
--- plans.
-abbrev pub round_of : Part → List SyncStep → List TakeStep → Round
+-- The round at this part, with these steps left of both plans.
+abbrev pub round_of : (part : Part) (syncs : List SyncStep) (takes : List TakeStep) → Round
 round_of part.Survey syncs takes = AtSurvey
 round_of part.Sync syncs takes = AtSync syncs takes
 round_of part.Takes syncs takes = AtTakes takes
@@ -20,22 +18,18 @@ round_of (part.Renewals last) syncs takes = AtRenewals last
 round_of (part.Consumers last) syncs takes = AtConsumers last
 round_of part.Stopping syncs takes = AtStopping
 
--- The chore for the first of the steps that are left of the sync plan (the first argument), or None if no step is left.
--- The chore contains this step, the later steps of the sync plan, and the steps `takes` of the take plan.
-abbrev pub syncing : List SyncStep → List TakeStep → Option Chore
+-- The chore for the sync plan's first step left, or None without one.
+abbrev pub syncing : (syncs : List SyncStep) (takes : List TakeStep) → Option Chore
 syncing [] takes = None
 syncing (step ∷ syncs) takes = Some (Syncing step syncs takes)
 
--- The chore for the first of the steps that are left of the take plan (the argument), or None if no step is left. The
--- chore contains this step and the later steps.
-abbrev pub taking : List TakeStep → Option Chore
+-- The chore for the take plan's first step left, or None without one.
+abbrev pub taking : (takes : List TakeStep) → Option Chore
 taking [] = None
 taking (step ∷ takes) = Some (Taking step takes)
 
--- The chore that the code stores in the first argument, or None if no command waits for its answer. A step of the sync
--- plan is the first of `syncs`, and a step of the take plan is the first of `takes`. If that list is empty, the result
--- is None.
-abbrev pub chore_of : Awaited → List SyncStep → List TakeStep → Option Chore
+-- The waiting chore from its stored form; None if nothing waits or the plan has no step left.
+abbrev pub chore_of : (awaited : Awaited) (syncs : List SyncStep) (takes : List TakeStep) → Option Chore
 chore_of awaited.Nothing syncs takes = None
 chore_of awaited.Survey syncs takes = Some Surveying
 chore_of awaited.Sync syncs takes = syncing syncs takes
@@ -45,12 +39,12 @@ chore_of (awaited.Consume id) syncs takes = Some (Consuming id)
 chore_of (awaited.Finish id) syncs takes = Some (Finishing id)
 chore_of (awaited.Free h) syncs takes = Some (Freeing h)
 
--- There is a chore, and it is a step of the sync plan.
-abbrev pub IsSyncing : Option Chore → Type 0
+-- The chore is a step of the sync plan.
+abbrev pub IsSyncing : (chore : Option Chore) → Type 0
 IsSyncing (Some (Syncing step syncs takes)) = Unit {0}
 IsSyncing _ = ⊥
 
--- There is a chore, and it is a step of the take plan.
-abbrev pub IsTaking : Option Chore → Type 0
+-- The chore is a step of the take plan.
+abbrev pub IsTaking : (chore : Option Chore) → Type 0
 IsTaking (Some (Taking step takes)) = Unit {0}
 IsTaking _ = ⊥

@@ -1,5 +1,4 @@
--- A worker as callers see it, and the record that the worker stands for: the list of the worker's events. `stands` says
--- which processor calls a processor stands for.
+-- A worker as callers see it, and the trace (its events) that it stands for.
 use Rattle.std.specs.Prelude.{ℕ, ◌≡◌, Bool, not, ◌&&◌, List, [], ◌∷◌, ◌++◌, Option, Some, None, Result}
 use Rattle.std.specs.List.{list_any, AllByRecursion}
 use Rattle.std.specs.Option.{option_map}
@@ -24,9 +23,7 @@ use Rattle.kcl_worker_lists.specs.Changes.{live_among, retired_among}
 use Rattle.kcl_worker_lists.specs.Lists.{Retirement, is_due}
 use Rattle.kcl_worker_lists.specs.Planning.{IsPlannedAfter}
 
--- A worker as callers see it: the values from which the worker was made; how far it has come in its round; the chore
--- whose command waits for its answer, if a command waits; and what the worker has seen of the rows. Then follow the
--- worker's leases, its consumers, what is kept of its retired consumers, and the maker of its processors.
+-- A worker as callers see it; `waiting` is the chore whose command waits for its answer.
 pub record WorkerStanding (P F : Type 0) : Type 0 where
   pub made : WorkerMade
   pub round : Round
@@ -37,73 +34,67 @@ pub record WorkerStanding (P F : Type 0) : Type 0 where
   pub retired : List (Retirement P)
   pub maker : F
 
--- The worker `new` was made with the same values as the worker `old`, and has the same maker of processors.
+-- Both workers have the same settings and maker.
 pub record IsSameWorker {P F : Type 0} (new old : WorkerStanding P F) : Type 0 where
   pub made : new.made ≡ old.made
   pub maker : new.maker ≡ old.maker
 
--- The worker `new` was made with the same values as the worker `old` and has the same maker of processors, and no
--- command of `new` waits for its answer.
+-- Both workers have the same settings and maker, and no command of `new` waits for its answer.
 pub record AwaitsNone {P F : Type 0} (new old : WorkerStanding P F) : Type 0 where
   pub made : new.made ≡ old.made
   pub maker : new.maker ≡ old.maker
   pub free : new.waiting ≡ None
 
--- The worker `w` after its consumers that are over were retired. What is kept of these consumers is added, in order, at
--- the end of `retired`.
-abbrev pub settled_in : {P F : Type 0} → WorkerStanding P F → WorkerStanding P F
+-- The worker after its consumers that are over were retired, in order.
+abbrev pub settled_in : {P F : Type 0} → (w : WorkerStanding P F) → WorkerStanding P F
 settled_in w = record w { consumers = live_among w.consumers; retired = w.retired ++ retired_among w.consumers }
 
--- `p` is what the worker `w` plans from the answer `answer` at the moment `now`. If the answer is that of an accepted
--- survey, `p` has the new leases and plans. Otherwise `p` is None.
-abbrev pub IsPlannedIn : {P F : Type 0} → WorkerStanding P F → ℕ → Result Reply Refusal → Option Planned → Type 0
+-- `p` is the worker's plan from the answer at `now`, None unless this is an accepted survey.
+abbrev pub IsPlannedIn : {P F : Type 0}
+    → (w : WorkerStanding P F) (now : ℕ) (answer : Result Reply Refusal) (p : Option Planned) → Type 0
 IsPlannedIn w now answer p = IsPlannedAfter w.made w.seen w.held now answer p
 
 -- ---- What a caller can see of a worker
 
--- Whether a processor call of one of the worker's consumers is due.
-abbrev pub is_due_in : {P F : Type 0} → WorkerStanding P F → Bool
+-- Whether a processor call of the worker is due.
+abbrev pub is_due_in : {P F : Type 0} → (w : WorkerStanding P F) → Bool
 is_due_in w = list_any is_due w.consumers
 
--- Whether the next command of one of the worker's consumers is a Give.
-abbrev pub is_giving_in : {P F : Type 0} → WorkerStanding P F → Bool
+-- Whether a consumer's next command is a Give.
+abbrev pub is_giving_in : {P F : Type 0} → (w : WorkerStanding P F) → Bool
 is_giving_in w = list_any (λ c. is_giving_stage c.stage) w.consumers
 
--- Whether the worker was stopped, and nothing is left to do: no processor call is due, no consumer's next command is a
--- Give, and the worker holds no lease.
-abbrev pub is_idle_in : {P F : Type 0} → WorkerStanding P F → Bool
+-- Whether the worker was stopped and has no due processor call, no Give and no lease left.
+abbrev pub is_idle_in : {P F : Type 0} → (w : WorkerStanding P F) → Bool
 is_idle_in w = is_stopping w.round && not (is_due_in w) && not (is_giving_in w) && is_nothing_held w.held
 
 -- ---- The record that a worker stands for
 
--- The two lists are equally long. Each consumer of the first list was made with the same values as the consumer at the
--- same index of the second list, and stands for that consumer's record.
-abbrev pub ConsumersStand : {P : Type 0} → (P → List Call → Type 0) → List (ConsumerValue P) → List Known → Type 0
+-- Equally long lists: consumers at the same index have the same values, and `cs` stand for the traces of `ks`.
+abbrev pub ConsumersStand : {P : Type 0}
+    → (stands : P → List Call → Type 0) (cs : List (ConsumerValue P)) (ks : List Known) → Type 0
 ConsumersStand stands [] [] = Unit {0}
 ConsumersStand stands (c ∷ cs) (k ∷ ks) = (c.made ≡ k.made) × ConsumerStandsFor stands c k.past
     × ConsumersStand stands cs ks
 ConsumersStand stands [] (k ∷ ks) = ⊥
 ConsumersStand stands (c ∷ cs) [] = ⊥
 
--- `r` is what is kept of the consumer `k`, which is over: the key and the tenure of `k`, the reason why `k` ended, and
--- a processor that stands for the calls of the record of `k`.
+-- `r` is what is kept of the ended consumer `k`, with a processor that stands for the calls of its trace.
 pub record IsRetirement {P : Type 0} (stands : P → List Call → Type 0) (r : Retirement P) (k : Known) : Type 0 where
   pub key : r.key ≡ k.made.key
   pub tenure : r.tenure ≡ k.made.tenure
   pub why : over_at (stage_of_known k) ≡ Some r.why
   pub calls : stands r.processor (calls_after k.made k.past)
 
--- The two lists are equally long, and each item of the first list is what is kept of the consumer at the same index of
--- the second list, which is over.
-abbrev pub RetirementsStand : {P : Type 0} → (P → List Call → Type 0) → List (Retirement P) → List Known → Type 0
+-- Equally long lists: each item is what is kept of the ended consumer at the same index.
+abbrev pub RetirementsStand : {P : Type 0}
+    → (stands : P → List Call → Type 0) (rs : List (Retirement P)) (ks : List Known) → Type 0
 RetirementsStand stands [] [] = Unit {0}
 RetirementsStand stands (r ∷ rs) (k ∷ ks) = IsRetirement stands r k × RetirementsStand stands rs ks
 RetirementsStand stands [] (k ∷ ks) = ⊥
 RetirementsStand stands (r ∷ rs) [] = ⊥
 
--- The worker `w` agrees with the state `s`. The round, the chore whose command waits, what was seen of each key's row,
--- and the leases are equal. The consumers of `w` stand for those of `s`, and `w` has what is kept of the retired
--- consumers of `s`.
+-- The worker agrees with the state; its consumers stand for the state's, live and retired.
 pub record ShowsState {P F : Type 0} (stands : P → List Call → Type 0) (w : WorkerStanding P F) (s : WorkerState) :
     Type 0 where
   pub round : w.round ≡ s.round
@@ -113,8 +104,7 @@ pub record ShowsState {P F : Type 0} (stands : P → List Call → Type 0) (w : 
   pub consumers : ConsumersStand stands w.consumers s.consumers
   pub retired : RetirementsStand stands w.retired s.retired
 
--- The worker `w` stands for the record `past`: the record results from calls that meet their preconditions, and `w`
--- agrees with the state after the record (`ShowsState`).
+-- The trace is orderly (its calls met their preconditions), and the worker agrees with the state after it.
 pub record StandsFor {P F : Type 0} (stands : P → List Call → Type 0) (w : WorkerStanding P F) (past : WorkerPast) :
     Type 0 where
   pub orderly : IsOrderly w.made past
@@ -122,23 +112,21 @@ pub record StandsFor {P F : Type 0} (stands : P → List Call → Type 0) (w : W
 
 -- ---- What a worker's processors were called for
 
--- The consumer `c` belongs to a tenure of the actor `by` in the history `h`. The processor of `c` stands for calls that
--- fit the accepted reads and Gives of this tenure (`IsLifeIn`).
-abbrev pub IsServedIn : {P : Type 0} → (P → List Call → Type 0) → ℕ → List Turn → ConsumerValue P → Type 0
-IsServedIn stands by h c =
-    IsOfTenure by h c.made × ((calls : List Call) × stands c.processor calls × IsLifeIn by h c.made calls)
+-- The consumer is of a tenure of `actor` in `h`, and its processor's calls fit the tenure's reads and Gives.
+abbrev pub IsServedIn : {P : Type 0}
+    → (stands : P → List Call → Type 0) (actor : ℕ) (h : List Turn) (c : ConsumerValue P) → Type 0
+IsServedIn stands actor h c =
+    IsOfTenure actor h c.made × ((calls : List Call) × stands c.processor calls × IsLifeIn actor h c.made calls)
 
--- The retired consumer `r` belonged to a tenure of the actor `by` in the history `h`. The processor of `r` stands for
--- calls that fit the accepted reads and Gives of this tenure, and each batch that was handed over is given
--- (`IsWholeLifeIn`).
-abbrev pub IsRetiredIn : {P : Type 0} → (P → List Call → Type 0) → ℕ → List Turn → Retirement P → Type 0
-IsRetiredIn stands by h r = (made : Tenancy) × (r.key ≡ made.key) × (r.tenure ≡ made.tenure) × IsOfTenure by h made
-    × ((calls : List Call) × stands r.processor calls × IsWholeLifeIn by h made calls)
+-- The ended consumer was of a tenure of `actor` in `h`, its calls fit, and each batch handed over is given.
+abbrev pub IsRetiredIn : {P : Type 0} → (stands : P → List Call → Type 0) (actor : ℕ) (h : List Turn) (r : Retirement P)
+    → Type 0
+IsRetiredIn stands actor h r = (made : Tenancy) × (r.key ≡ made.key) × (r.tenure ≡ made.tenure)
+    × IsOfTenure actor h made
+    × ((calls : List Call) × stands r.processor calls × IsWholeLifeIn actor h made calls)
 
--- Each consumer of the worker `w`, retired or not, belongs to a tenure of the actor `by` in the history `h`. Its
--- processor stands for calls that fit the accepted reads and Gives of this tenure. Each batch that the processor of a
--- retired consumer was handed is given.
-pub record AreServedIn {P F : Type 0} (stands : P → List Call → Type 0) (by : ℕ) (h : List Turn)
+-- All processors' calls fit their tenures' reads and Gives, and retired ones' batches are all given.
+pub record AreServedIn {P F : Type 0} (stands : P → List Call → Type 0) (actor : ℕ) (h : List Turn)
     (w : WorkerStanding P F) : Type 0 where
-  pub consumers : AllByRecursion (IsServedIn stands by h) w.consumers
-  pub retired : AllByRecursion (IsRetiredIn stands by h) w.retired
+  pub consumers : AllByRecursion (IsServedIn stands actor h) w.consumers
+  pub retired : AllByRecursion (IsRetiredIn stands actor h) w.retired

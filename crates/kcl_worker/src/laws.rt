@@ -18,17 +18,17 @@ use kcl_consumer::{Maker, Processor};
 /// called, in order, with each non-empty batch of its tenure that a Give command in the history reports as processed.
 /// The processor is called with at most one further batch. Commands of other actors in the history don't change this.
 pub fn service()
-    ensures served { (by : ℕ) (h : List Turn) (made : WorkerMade) (past : WorkerPast)
-        → IsOrderly made past → IsToldIn by h made past → AreServed by h made past }
-    ensures of_tenures { (by : ℕ) (h : List Turn) (t : ℕ) (T : TenureState) → tenure (journal h) t ≡ Some T
-        → (T.by == by) ≡ true → AreOfTenure by h t T }
-    ensures others { (by : ℕ) (turn : Turn) (h : List Turn) (made : WorkerMade) (past : WorkerPast)
-        → (turn.by == by) ≡ false → IsToldIn by h made past → IsToldIn by (turn ∷ h) made past }
+    ensures served { (actor : ℕ) (h : List Turn) (made : WorkerMade) (past : WorkerPast)
+        → IsOrderly made past → IsToldIn actor h made past → AreServed actor h made past }
+    ensures of_tenures { (actor : ℕ) (h : List Turn) (t : ℕ) (T : TenureState) → tenure (journal h) t ≡ Some T
+        → (T.by == actor) ≡ true → AreOfTenure actor h t T }
+    ensures others { (actor : ℕ) (turn : Turn) (h : List Turn) (made : WorkerMade) (past : WorkerPast)
+        → (turn.by == actor) ≡ false → IsToldIn actor h made past → IsToldIn actor (turn ∷ h) made past }
 {}
 
 /// States the law `service` for the worker `_worker`. Here, the calls of a processor are those in its list of completed
 /// calls (see `Processor`).
 pub fn served<P: Processor, F: Maker<P>>(_worker: &Worker<P, F>)
-    ensures { (by : ℕ) (h : List Turn) (past : WorkerPast) → StandsFor P.stands_for _worker.now past
-        → IsToldIn by h _worker.now.made past → AreServedIn P.stands_for by h _worker.now }
+    ensures { (actor : ℕ) (h : List Turn) (past : WorkerPast) → StandsFor P.stands_for _worker.now past
+        → IsToldIn actor h _worker.now.made past → AreServedIn P.stands_for actor h _worker.now }
 {}

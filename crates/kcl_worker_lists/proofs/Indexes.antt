@@ -1,4 +1,4 @@
--- If the keys of a list's rows rise, the row of a key is found at the key's index.
+-- Rows whose keys rise are found at the key's index.
 use Rattle.std.proofs.Common.{◌≡◌, ℕ, suc, Bool, true, false, List, [], ◌∷◌, Some, None, refl, sym, ap, ◌∙◌}
 use Rattle.std.specs.Prelude.{slice_get, if◌then◌else◌}
 use Rattle.kds_base.specs.declared.lease_key.ShardRef.{ShardRef}
@@ -30,16 +30,14 @@ row_here : (key : ShardRef) (r : Row) (rs : List Row) (b d : Bool) → is_before
     → row_of rs key ≡ if_key key (slice_get rs (row_index key rs))
     → (if d then Some r else row_of rs key)
     ≡ if_key key (slice_get (r ∷ rs) (if b then suc (row_index key rs) else 0))
-row_here key r rs true true before same rising rest =
-    absurd (apart (same_key r.key key) same (not_same r.key key before))
-row_here key r rs true false before same rising rest = rest
-row_here key r rs false true before same rising rest = ap (λ d. if d then Some r else None) (sym same)
-row_here key r rs false false before same rising rest =
-    absent key rs (before_first key r.key rs (after_else r.key key before same) rising.0) rising.1
+row_here key r rs true true is_earlier same rising rest =
+    absurd (apart (same_key r.key key) same (not_same r.key key is_earlier))
+row_here key r rs true false is_earlier same rising rest = rest
+row_here key r rs false true is_earlier same rising rest = ap (λ d. if d then Some r else None) (sym same)
+row_here key r rs false false is_earlier same rising rest =
+    absent key rs (before_first key r.key rs (after_else r.key key is_earlier same) rising.0) rising.1
     ∙ ap (λ d. if d then Some r else None) (sym same)
 
--- If the keys of the rows rise, the row of the key `key` is the row at this key's index (`row_index`), if that
--- row has this key. Otherwise no row has this key.
 pub row_there : (key : ShardRef) (rs : List Row) → AreRising (keys_of rs)
     → row_of rs key ≡ if_key key (slice_get rs (insertion_index (λ (r : Row). r.key) key rs))
 row_there key [] rising = refl

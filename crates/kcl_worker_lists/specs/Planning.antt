@@ -1,4 +1,4 @@
--- What a worker plans after a survey, and which of its leases it keeps.
+-- A worker's plan after a survey, and the leases that it keeps.
 use Rattle.std.specs.Prelude.{ℕ, ◌≡◌, Bool, not, List, Option, Some, None, Result, Ok}
 use Rattle.std.specs.List.{filter, list_any}
 use Rattle.kds_base.specs.declared.lease_key.ShardRef.{ShardRef}
@@ -14,18 +14,15 @@ use Rattle.kcl_defs.specs.Plans.{after_rows, expiry, seen_at, sync_plan, take_pl
 use Rattle.kcl_defs.specs.Workers.{id_of_held, same_id, still_stands}
 use Rattle.kcl_worker_lists.specs.declared.planning.Planned.{Planned}
 
--- Those of the leases `held` for whose key no row is among `rows`, or whose row names another tenure.
-abbrev pub lost_of : List Row → List Held → List Held
+-- The leases whose row is gone or names another tenure.
+abbrev pub lost_of : (rows : List Row) (held : List Held) → List Held
 lost_of rows held = filter (λ h. not (still_stands rows h)) held
 
--- Whether one of the leases `held` has the identity `id`.
-abbrev pub is_among : List Held → TenancyId → Bool
+-- Whether one of the leases is `id`.
+abbrev pub is_among : (held : List Held) (id : TenancyId) → Bool
 is_among held id = list_any (λ h. same_id (id_of_held h) id) held
 
--- `p` is what a worker plans after a survey at `now` that found the shards `shards` and the rows `rows`. Before the
--- survey, the worker had seen `seen` of the rows and had the leases `held`. `p` has what the worker has seen of each
--- key's row now, the sync plan and the take plan. `p` also has the leases that the worker keeps, and those whose row is
--- gone or names another tenure.
+-- `p` is the worker's plan after a survey at `now`: notes, both plans, and kept and lost leases.
 pub record IsPlanned (made : WorkerMade) (seen : List Seen) (held : List Held) (shards : List ShardRef)
     (rows : List Row) (now : ℕ) (p : Planned) : Type 0 where
   pub seen_so : (key : ShardRef) → seen_at p.observed key ≡ after_rows rows now (seen_at seen) key
@@ -35,9 +32,9 @@ pub record IsPlanned (made : WorkerMade) (seen : List Seen) (held : List Held) (
   pub takes_so : p.takes
       ≡ take_plan (expiry (seen_at p.observed) now made.settings.failover) made.name p.held.items rows
 
--- If the answer is that of an accepted survey, the last argument has what the worker plans after this survey
--- (`IsPlanned`). After any other answer, the last argument is None.
-abbrev pub IsPlannedAfter : WorkerMade → List Seen → List Held → ℕ → Result Reply Refusal → Option Planned → Type 0
+-- After an accepted survey there is the plan `IsPlanned`, and after any other answer none.
+abbrev pub IsPlannedAfter : (made : WorkerMade) (seen : List Seen) (held : List Held) (now : ℕ)
+    (result : Result Reply Refusal) (p : Option Planned) → Type 0
 IsPlannedAfter made seen held now (Ok (reply.Survey shards rows)) (Some p) = IsPlanned made seen held shards rows now p
 IsPlannedAfter made seen held now (Ok (reply.Survey shards rows)) None = ⊥
 IsPlannedAfter made seen held now _ None = Unit {0}

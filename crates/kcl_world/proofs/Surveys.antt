@@ -1,4 +1,4 @@
--- A survey changes nothing. It is answered with the listed shards and all rows.
+-- A survey changes nothing and is answered with the listed shards and all rows.
 use Rattle.std.proofs.Common.{◌≡◌, ℕ, List, sym, ap, ◌∙◌}
 use Rattle.std.specs.Prelude.{Ok}
 use Rattle.kds_base.specs.declared.lease_key.ShardRef.{ShardRef}
@@ -14,13 +14,11 @@ use Rattle.kcl_leases.proofs.RowChanges.{rows_are}
 use Rattle.kds_service.specs.Shown.{ServiceValue}
 use Rattle.kcl_world.specs.Standing.{Leads, Stands, world}
 
--- If `shards` are the listed shards of all live streams, and `found` are all rows, then a survey is answered with
--- these, and leaves the machine as it was.
-pub survey_leads : (s : ServiceValue) (rs : List Row) (ts : List TenureValue) (by : ℕ) (shards : List ShardRef)
+pub survey_leads : (s : ServiceValue) (rs : List Row) (ts : List TenureValue) (actor : ℕ) (shards : List ShardRef)
     (found : List Row) → ((log : Journal) → Stands (world s rs ts) log
     → shards ≡ listed_in log s.clock (live_streams log)) → found ≡ rs
-    → Leads (world s rs ts) (world s rs ts) by command.Survey (Ok (reply.Survey shards found))
-survey_leads s rs ts by shards found listed is = λ log st.
+    → Leads (world s rs ts) (world s rs ts) actor command.Survey (Ok (reply.Survey shards found))
+survey_leads s rs ts actor shards found listed is = λ log st.
     let all : found ≡ rows log = is ∙ sym (rows_are log rs st.row_is st.distinct)
     ∙ ap (rows_at log) (sym st.keys_are) in (
       ap (λ xs. Ok (reply.Survey xs found)) (listed log st)

@@ -1,5 +1,4 @@
--- If the machine stands for a history, it stands after a turn for the history with this turn. A turn raises the clock,
--- applies the command, and settles one stream (its trimmed records are dropped).
+-- A turn raises the clock, applies the command and settles one stream, as its history says.
 use Rattle.std.proofs.Common.{◌≡◌, ℕ, zero, suc, max, List, [], ◌∷◌, length, None, refl, sym, ap, subst, ◌∙◌, arith}
 use Rattle.std.specs.Prelude.{Result}
 use Rattle.std.specs.Option.{option_map}
@@ -22,7 +21,6 @@ no_tenure : (t : ℕ) → option_map kept None ≡ tenure_at [] t
 no_tenure zero = refl
 no_tenure (suc n) = refl
 
--- A machine without streams, rows and tenures, whose clock is 0, stands for the history without turns.
 pub stands_new : (s : ServiceValue) → s.clock ≡ 0 → s.next_to_settle ≡ 0 → ShowsAll s [] → StandsFor (world s [] []) []
 stands_new s clock first shows = record {
   clock_is = clock;
@@ -36,31 +34,27 @@ stands_new s clock first shows = record {
       (record { count_is = refl; few = omega arith; tenure_is = no_tenure; given = λ t. tt });
 }
 
--- Let the machine with the service `s` stand for a journal, which also leads to the streams of the service `s'`. Then
--- the machine with `s'` and the same rows and tenures stands for this journal.
 pub stands_at : (s s' : ServiceValue) (rs : List Row) (ts : List TenureValue) (log : Journal)
     → Stands (world s rs ts) log → ShowsAll s' log → Stands (world s' rs ts) log
 stands_at s s' rs ts log st shows =
     stands_of (seen s') rs ts log shows (rows_of (seen s) rs ts log st) (tenures_of (seen s) rs ts log st)
 
--- The index of the stream that is settled next changes only when a stream is settled, and is then the next one in a
--- circle. The four services are those before the turn, at the turn's clock, after the command, and after the settling.
+-- Only settling moves the next stream to settle, by one in rotation.
 abbrev pub TakesTurns : ServiceValue → ServiceValue → ServiceValue → ServiceValue → Type 0
-TakesTurns s at mid last = (at.next_to_settle ≡ s.next_to_settle) × (mid.next_to_settle ≡ at.next_to_settle)
+TakesTurns s service mid last = (service.next_to_settle ≡ s.next_to_settle)
+    × (mid.next_to_settle ≡ service.next_to_settle)
     × (last.next_to_settle ≡ next_in_rotation (length mid.streams) mid.next_to_settle)
 
--- If each part of a turn does what its contract says, the answer is that of the definitions, and the machine stands for
--- the history with the turn. The services `s`, `at`, `mid` and `last` are those before the turn, at the turn's clock,
--- after the command, and after the settling.
-pub turn_done : (s at mid last : ServiceValue) (rs rs' : List Row) (ts ts' : List TenureValue) (h : List Turn)
+-- The services are from before the turn, at its clock, after the command, and after settling.
+pub turn_done : (s service mid last : ServiceValue) (rs rs' : List Row) (ts ts' : List TenureValue) (h : List Turn)
     (turn : Turn) (gives : Result Reply Refusal) → StandsFor (world s rs ts) h
-    → ShowsAll at (journal h) → at.clock ≡ max s.clock turn.at
-    → Leads (world at rs ts) (world mid rs' ts') turn.by turn.what gives → mid.clock ≡ at.clock
-    → ((log : Journal) → ShowsAll mid log → ShowsAll last log) → last.clock ≡ mid.clock → TakesTurns s at mid last
+    → ShowsAll service (journal h) → service.clock ≡ max s.clock turn.at
+    → Leads (world service rs ts) (world mid rs' ts') turn.by turn.what gives → mid.clock ≡ service.clock
+    → ((log : Journal) → ShowsAll mid log → ShowsAll last log) → last.clock ≡ mid.clock → TakesTurns s service mid last
     → (gives ≡ answer h turn) × StandsFor (world last rs' ts') (turn ∷ h)
-turn_done s at mid last rs rs' ts ts' h turn gives stood shows at_is led mid_is settles last_is turns =
-    let c : at.clock ≡ clock_of (turn ∷ h) = at_is ∙ ap (λ n. max n turn.at) stood.clock_is in
-    let l = led (journal h) (stands_at s at rs ts (journal h) stood.stands shows) in
+turn_done s service mid last rs rs' ts ts' h turn gives stood shows at_is led mid_is settles last_is turns =
+    let c : service.clock ≡ clock_of (turn ∷ h) = at_is ∙ ap (λ n. max n turn.at) stood.clock_is in
+    let l = led (journal h) (stands_at s service rs ts (journal h) stood.stands shows) in
     let after = subst (λ n.
     Stands (world mid rs' ts') (with_lines (lines_of (decide (journal h) n turn.by turn.what)) (journal h)))
     c l.1 in (
@@ -75,16 +69,14 @@ turn_done s at mid last rs rs' ts ts' h turn gives stood shows at_is led mid_is 
       },
     )
 
--- If a machine stands for some history, it stands for some history after one more turn. The services `s`, `at`, `mid`
--- and `last` are those before the turn, at the turn's clock, after the command, and after the settling.
-pub turn_stands : (s at mid last : ServiceValue) (rs rs' : List Row) (ts ts' : List TenureValue) (turn : Turn)
+pub turn_stands : (s service mid last : ServiceValue) (rs rs' : List Row) (ts ts' : List TenureValue) (turn : Turn)
     (gives : Result Reply Refusal) → ((h : List Turn) × StandsFor (world s rs ts) h)
-    → ((log : Journal) → ShowsAll s log → ShowsAll at log) → at.clock ≡ max s.clock turn.at
-    → Leads (world at rs ts) (world mid rs' ts') turn.by turn.what gives → mid.clock ≡ at.clock
-    → ((log : Journal) → ShowsAll mid log → ShowsAll last log) → last.clock ≡ mid.clock → TakesTurns s at mid last
+    → ((log : Journal) → ShowsAll s log → ShowsAll service log) → service.clock ≡ max s.clock turn.at
+    → Leads (world service rs ts) (world mid rs' ts') turn.by turn.what gives → mid.clock ≡ service.clock
+    → ((log : Journal) → ShowsAll mid log → ShowsAll last log) → last.clock ≡ mid.clock → TakesTurns s service mid last
     → (h : List Turn) × StandsFor (world last rs' ts') h
-turn_stands s at mid last rs rs' ts ts' turn gives stood shows at_is led mid_is settles last_is turns = (
+turn_stands s service mid last rs rs' ts ts' turn gives stood shows at_is led mid_is settles last_is turns = (
   turn ∷ stood.0,
-  (turn_done s at mid last rs rs' ts ts' stood.0 turn gives stood.1
+  (turn_done s service mid last rs rs' ts ts' stood.0 turn gives stood.1
       (shows (journal stood.0) stood.1.stands.shows) at_is led mid_is settles last_is turns).1,
 )

@@ -19,8 +19,8 @@ use kds_service::Service;
 
 /// Returns all listed shards and all rows of the lease table. The error means that memory ran out.
 pub fn survey(service: &Service, table: &Table) -> Result<Answer, Memory>
-    ensures { (by : ℕ) (ts : List TenureValue) → let at = world service.now table.now ts in
-        IfOk result (Leads at at by command.Survey) }
+    ensures { (actor : ℕ) (ts : List TenureValue) → let at = world service.now table.now ts in
+        IfOk result (Leads at at actor command.Survey) }
 {
     let shards = service.listed()?;
     let rows = table.rows()?;

@@ -3,7 +3,6 @@ use Rattle.std.proofs.Common.{◌≡◌, [], ◌∷◌, refl}
 use Rattle.md5.specs.Md5.{md5, digest_bytes, hash_after, compress, rounds, block_words}
 use Rattle.kds_base.specs.Hashes.{key_hash}
 
--- The hash key of the partition key `a`.
 of_a : key_hash (97 ∷ []) ≡ 0x0cc175b9c0f1b6a831c399e269772661
 unfolding md5 digest_bytes hash_after compress rounds block_words
 of_a = refl

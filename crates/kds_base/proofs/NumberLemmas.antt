@@ -1,5 +1,4 @@
--- Numbers as decimal text: each number has exactly one text without needless leading zeros, and a text is read digit by
--- digit.
+-- Each number has exactly one text without needless leading zeros; a text is read digit by digit.
 use Rattle.std.proofs.Common.{decimal, sym, ap, ◌∙◌, subst, get_or, take, Some, None, zero, suc, inl, inr, ◌⊎◌, ◌≡◌, ℕ}
 use Rattle.std.proofs.Common.{◌+◌, ◌-◌, ◌*◌, ◌/◌, ◌%◌, ◌^◌, ◌<◌, ◌≤◌, List, [], ◌∷◌, ◌++◌, length, Bool, true, false}
 use Rattle.std.proofs.Common.{refl, arith, rules}
@@ -20,26 +19,22 @@ use Rattle.std.specs.List.{list_all}
 use Rattle.std.specs.Str.Parse.{AllDigits, digits_value, digits_value_after}
 use Rattle.kds_base.specs.NumberText.{are_digits, digits_of, is_plain, number_of}
 
--- Each byte of the text `ds` is a decimal digit.
+-- Each byte of the text is a decimal digit.
 abbrev pub IsDigits : List ℕ → Type 0
 IsDigits ds = list_all is_ascii_digit ds ≡ true
 
--- The texts of decimal digits, with the values that they have in base 10, are numerals to which the lemmas of std on
--- numerals apply.
+-- Lets the lemmas of std on numerals apply to texts of digits.
 pub own : IsNumeralModel IsDigits (digits_value 10)
 own = numerals_by_value IsDigits (search rules)
 
--- A text without a needless leading zero (`is_plain`) consists of digits, and isn't empty.
 pub plain_digits : (text : List ℕ) → is_plain text ≡ true → IsDigits text × (0 < length text)
 plain_digits text p = (grind (arith, common_steps), grind (arith, common_steps))
 
 -- ---- One text for each number
 
--- If a text without a needless leading zero (`is_plain`) begins with the digit 0, this is the only digit of the text.
 pub plain_first : (text : List ℕ) → is_plain text ≡ true → get_or text 0 0 ≡ 48 → length text ≡ 1
 plain_first text p z = grind (arith, common_steps)
 
--- A number of at most 128 bits is below 10^64.
 pub few_digits : (bits n : ℕ) → bits ≤ 128 → n < 2 ^ bits → n < 10 ^ 64
 few_digits bits n few small = let most : 2 ^ bits ≤ 2 ^ 128 = pow_mono few in omega arith
 
@@ -60,8 +55,6 @@ value_after n (c ∷ cs) some d small =
     ∙ (λ i. decimal (front i) ++ (end i ∷ [])))
     ∙ append_assoc (decimal n) (c ∷ []) cs
 
--- If the digits `ds`, of which there is at least one, have no needless leading zero and a value below 10^64, they are
--- the decimal text of this value.
 value_digits : (ds : List ℕ) → AllDigits 10 ds → 0 < length ds → (get_or ds 0 0 ≡ 48 → length ds ≡ 1)
     → digits_value 10 ds < 10 ^ 64 → decimal (digits_value 10 ds) ≡ ds
 value_digits [] d some lead small = absurd (omega arith)
@@ -75,14 +68,13 @@ value_digits (c ∷ e ∷ cs) d some lead small =
     value_after (0 * 10 + digit_value c) (e ∷ cs) (omega arith) d.1 small
     ∙ ap (λ x. x ++ (e ∷ cs)) (decimal_digit (0 * 10 + digit_value c) (omega (arith, d.0)) ∙ ap (λ x. x ∷ []) is)
 
--- The number that a text denotes with the bound 2^`bits` (`number_of`) is below this bound.
 pub fits : (bits n : ℕ) (text : List ℕ) → number_of bits text ≡ Some n → n < 2 ^ bits
 fits bits n text h =
     let small : digits_value 10 text < 2 ^ bits = grind (arith, common_steps) in
     let v : digits_value 10 text ≡ n = grind (arith, common_steps) in
     subst (λ (z : ℕ). z < 2 ^ bits) v small
 
--- If a text denotes the number `n` (`number_of`, with at most 128 bits), the text is the decimal text of `n`.
+-- A number's text without needless leading zeros is its one spelling.
 pub spells : (bits n : ℕ) (text : List ℕ) → bits ≤ 128 → number_of bits text ≡ Some n → text ≡ decimal n
 spells bits n text few h =
     let p : is_plain text ≡ true = grind (arith, common_steps) in
@@ -92,7 +84,6 @@ spells bits n text few h =
     sym (ap decimal (sym v)
     ∙ value_digits text (own.to text d.0) d.1 (plain_first text p) (few_digits bits _ few small))
 
--- A text of digits has no needless leading zero (`is_plain`) if its first digit isn't 0 or is its only one.
 plain_from : (text : List ℕ) → 0 < length text → IsDigits text → (48 < get_or text 0 0) ⊎ (length text ≡ 1)
     → is_plain text ≡ true
 plain_from text some digits (inl big) = grind (arith, common_steps)
@@ -110,7 +101,6 @@ first_digit n some small =
 decimal_digits : (n : ℕ) → n < 10 ^ 64 → IsDigits (decimal n)
 decimal_digits n small = own.from (decimal n) (decimal_is_IsNumeral_wide n small).0.1
 
--- The decimal text of a number below 10^64 consists of digits, and has no needless leading zero (`is_plain`).
 pub decimal_plain : (n : ℕ) → n < 10 ^ 64 → is_plain (decimal n) ≡ true
 decimal_plain zero small =
     plain_from (decimal 0) (decimal_is_IsNumeral_wide 0 small).0.0 (decimal_digits 0 small)
@@ -123,28 +113,26 @@ number_from : (bits n : ℕ) (text : List ℕ) → is_plain text ≡ true → di
     → number_of bits text ≡ Some n
 number_from bits n text p v small = grind (arith, common_steps)
 
--- If `n` is below 2^`bits`, the decimal text of `n` denotes `n` (`number_of`, with at most 128 bits).
+-- A round trip from number to text.
 pub reads : (bits n : ℕ) → bits ≤ 128 → n < 2 ^ bits → number_of bits (decimal n) ≡ Some n
 reads bits n few small =
     let short = few_digits bits n few small in
     number_from bits n (decimal n) (decimal_plain n short) (decimal_is_IsNumeral_wide n short).1 small
 
--- If a text denotes the number `n` with the bound 2^64, the text is the decimal text of `n`, and `n` is below 2^64.
+-- The one spelling, for 64 bits.
 pub decimal_of_number : (text : List ℕ) (n : ℕ) → number_of 64 text ≡ Some n → (text ≡ decimal n) × (n < 2 ^ 64)
 decimal_of_number text n h = (spells 64 n text (omega arith) h, fits 64 n text h)
 
--- If `n` is below 2^64, the decimal text of `n` denotes `n` with the bound 2^64.
+-- A round trip from number to text, for 64 bits.
 pub number_of_decimal : (n : ℕ) → n < 2 ^ 64 → number_of 64 (decimal n) ≡ Some n
 number_of_decimal n small = reads 64 n (omega arith) small
 
 -- ---- Digits with or without needless leading zeros
 
--- If the test `are_digits` is true of a text, the text consists of digits, and isn't empty.
 pub some_digits : (text : List ℕ) → are_digits text ≡ true → IsDigits text × (0 < length text)
 some_digits text p = (grind (arith, common_steps), grind (arith, common_steps))
 
--- Let the first `i` digits have the value `n`, and let the byte at the index `i` be a digit. Then the value of the
--- first `i + 1` digits is `n * 10` plus this digit.
+-- The value of one digit more.
 pub next_digit : (ds : List ℕ) (i n : ℕ) → i < length ds → is_ascii_digit (get_or ds i 0) ≡ true
     → n ≡ digits_value 10 (take i ds)
     → digits_value 10 (take (i + 1) ds) ≡ n * 10 + (get_or ds i 0 - 48)
@@ -152,8 +140,6 @@ next_digit ds i n inside digit value =
     let worth : digit_value (get_or ds i 0) ≡ get_or ds i 0 - 48 = grind (arith, nat_tests) in
     rw (digits_value_more 10 ds i inside, worth, value)
 
--- If the first `i` bytes of a text are digits, and the byte at the index `i` is one too, the first `i + 1` bytes are
--- digits.
 pub more_digits : (ds : List ℕ) (i : ℕ) → i < length ds → list_all is_ascii_digit (take i ds) ≡ true
     → is_ascii_digit (get_or ds i 0) ≡ true
     → list_all is_ascii_digit (take (i + 1) ds) ≡ true
@@ -169,11 +155,9 @@ some_other test (x ∷ xs) (suc i) inside fails = none (test x) _ (some_other te
     none true b e = e
     none false b e = refl
 
--- An empty text denotes no number.
 pub none_of_nothing : (bits : ℕ) (text : List ℕ) → length text ≡ 0 → None ≡ digits_of bits text
 none_of_nothing bits text e = let no : nat_lt 0 (length text) ≡ false = grind (arith, common_steps) in rw no refl
 
--- A text that has a byte which isn't a digit, at the index `i`, denotes no number.
 pub none_of_others : (bits i : ℕ) (text : List ℕ) → i < length text → is_ascii_digit (get_or text i 0) ≡ false
     → None ≡ digits_of bits text
 none_of_others bits i text inside fails =
@@ -181,8 +165,7 @@ none_of_others bits i text inside fails =
     let no : are_digits text ≡ false = grind (arith, common_steps) in
     rw no refl
 
--- If the first `i` digits of a text already have a value of at least 2^`bits`, the text denotes no number below
--- 2^`bits`.
+-- The value of a front already exceeds the bound.
 pub none_of_large : (bits i : ℕ) (text : List ℕ) → 2 ^ bits ≤ digits_value 10 (take i text) → None ≡ digits_of bits text
 none_of_large bits i text large =
     let most : digits_value 10 (take i text) ≤ digits_value 10 text = digits_value-take-le 10 text i (omega arith) in
@@ -192,7 +175,6 @@ none_of_large bits i text large =
     past true n h = let no : nat_lt n (2 ^ bits) ≡ false = grind (arith, nat_tests) in rw no refl
     past false n h = refl
 
--- A text of one or more digits whose value `n` is below 2^`bits` denotes `n`.
 pub all_read : (bits n : ℕ) (text : List ℕ) → 0 < length text → list_all is_ascii_digit text ≡ true
     → n ≡ digits_value 10 text → n < 2 ^ bits → Some n ≡ digits_of bits text
 all_read bits n text some all value small =
@@ -201,13 +183,11 @@ all_read bits n text some all value small =
     let fits_bits : nat_lt (digits_value 10 text) (2 ^ bits) ≡ true = grind (arith, nat_tests) in
     rw (digits, fits_bits) (ap (λ z. Some z) value)
 
--- A text of several bytes that begins with the digit 0 denotes no number, if leading zeros aren't allowed.
 pub none_of_needless : (bits : ℕ) (text : List ℕ) → (nat_lt 1 (length text) && slice_index text 0 == 48) ≡ true
     → None ≡ number_of bits text
 none_of_needless bits text e = let no : is_plain text ≡ false = grind (arith, common_steps) in rw no refl
 
--- A text without a needless leading zero denotes the same number whether leading zeros are allowed (`digits_of`) or not
--- (`number_of`).
+-- Both readings agree on a text without a needless leading zero.
 pub plain_as_digits : (bits : ℕ) (text : List ℕ) → (nat_lt 1 (length text) && slice_index text 0 == 48) ≡ false
     → digits_of bits text ≡ number_of bits text
 plain_as_digits bits text e = let same : are_digits text ≡ is_plain text = grind (arith, common_steps) in rw same refl

@@ -1,11 +1,10 @@
--- How the uniform ranges of a new stream result one after another, computed with numbers below 2^128.
+-- The uniform ranges of a new stream one after another, computed with numbers below 2^128.
 use Rattle.std.proofs.Common.{◌≡◌, ℕ, zero, suc, ◌+◌, ◌-◌, ◌*◌, ◌/◌, ◌^◌, ◌<◌, ◌≤◌, List, [], ◌∷◌, ◌++◌, ◌==◌}
 use Rattle.std.proofs.Common.{if◌then◌else◌, sym, ap, ◌∙◌, append_assoc, arith}
 use Rattle.std.proofs.Math.Nat.{add-div_right}
 use Rattle.std.proofs.lemmas.Bool.Decides.{nat_tests}
 use Rattle.kds_base.specs.Span.{Span, last_key, uniform_from, uniform}
 
--- The width of the ranges, 2^128 / n rounded down, can be computed with numbers below 2^128.
 width : (n : ℕ) → 0 < n → n ≤ 2 ^ 32 → (last_key - (n - 1)) / n + 1 ≡ 2 ^ 128 / n
 width n some few =
     let e : last_key - (n - 1) + n ≡ 2 ^ 128 = omega arith in
@@ -14,8 +13,7 @@ width n some few =
 times_next : (a w : ℕ) → a * w + a ≡ a * (w + 1)
 times_next a w = omega arith
 
--- The first key of the range with the index `i` of `n` uniform ranges, computed with numbers below 2^128, is `i` times
--- the width. The numbers `a` and `m` are `i` and `n`.
+-- The product `i` times the width, computed without 2^128 itself.
 pub start_is : (a m i n : ℕ) → a ≡ i → m ≡ n → i < n → n < 2 ^ 32
     → a * ((last_key - (m - 1)) / m) + a ≡ i * (2 ^ 128 / n)
 start_is a m i n is_i is_n below few =
@@ -31,8 +29,6 @@ inner_end : (w i n k e : ℕ) → suc k + (i + 1) ≡ n → e ≡ (if i + 1 == n
     → (i + 1) * w - 1 ≡ e
 inner_end w i n k e h g = grind (arith, nat_tests)
 
--- The last `k + 1` of `n` uniform ranges are the range with the index `i`, followed by the last `k` ranges. The range
--- with the index `i` ends at `e`, and `w` is the width of the ranges.
 pub next_range : (w i n k e : ℕ) → k + (i + 1) ≡ n → e ≡ (if i + 1 == n then last_key else (i + 1) * w - 1)
     → uniform_from w (i * w) (suc k) ≡ record { start = i * w; end = e } ∷ uniform_from w ((i + 1) * w) k
 next_range w i n zero e h g = ap (λ z. record { start = i * w; end = z } ∷ []) (last_end w i n e h g)
@@ -41,8 +37,7 @@ next_range w i n (suc k) e h g =
     ap (λ z. record { start = i * w; end = z - 1 } ∷ uniform_from w z (suc k)) s
     ∙ ap (λ z. record { start = i * w; end = z } ∷ uniform_from w ((i + 1) * w) (suc k)) (inner_end w i n k e h g)
 
--- Suppose that `ranges`, followed by the last `k + 1` of `n` uniform ranges, are all `n` ranges. If the range with the
--- index `i`, from `s` to `e`, is added to `ranges`, these and the last `k` ranges are still all `n` ranges.
+-- After the next range is added, the ranges so far and the remaining ones are still all `n`.
 pub pushed : (ranges : List Span) (w i n k s e : ℕ) → ranges ++ uniform_from w (i * w) (suc k) ≡ uniform n → s ≡ i * w
     → k + (i + 1) ≡ n → e ≡ (if i + 1 == n then last_key else (i + 1) * w - 1)
     → (ranges ++ record { start = s; end = e } ∷ []) ++ uniform_from w ((i + 1) * w) k ≡ uniform n

@@ -1,5 +1,4 @@
--- A long text of digits is read in two parts: its last 19 digits are the block, and the digits before it are the front.
--- What the whole text is read as follows from what the front and the block are read as.
+-- A long text of digits is read in two parts: its last 19 digits are the block, the digits before it the front.
 use Rattle.std.proofs.Common.{sym, ap, ◌∙◌, Option, Some, None, zero, suc, ◌≡◌, ℕ, ◌+◌, ◌*◌, ◌^◌, ◌<◌, ◌≤◌, List, []}
 use Rattle.std.proofs.Common.{◌∷◌, ◌++◌, length, Bool, true, false, refl, arith}
 use native.Mathlib.Nat.{pow-zero, pow-succ', pow-le-pow_right, mul-le-mul_right}
@@ -55,7 +54,6 @@ is_read bits text some all small =
     let fits : nat_lt (digits_value 10 text) (2 ^ bits) ≡ true = grind (arith, nat_tests) in
     rw (digits, fits) refl
 
--- If a text of digits that isn't empty denotes no number below 2^`bits`, the value of its digits is at least 2^`bits`.
 why_not : (bits : ℕ) (text : List ℕ) → 0 < length text → digits_of bits text ≡ None
     → list_all is_ascii_digit text ≡ true → 2 ^ bits ≤ digits_value 10 text
 why_not bits text some h all = let digits : are_digits text ≡ true = grind (arith, common_steps) in
@@ -72,7 +70,7 @@ value_of bits n text h = grind (arith, common_steps)
 block_end : (block : List ℕ) → IsDigits block → length block ≡ 19 → digits_value 10 block < 10 ^ 19
 block_end block digits long = digits_value_short own block 19 digits (omega arith)
 
-by_test : {A : Type 0} (b : Bool) → (b ≡ true → A) → (b ≡ false → A) → A
+pub by_test : {A : Type 0} (b : Bool) → (b ≡ true → A) → (b ≡ false → A) → A
 by_test true holds fails = holds refl
 by_test false holds fails = fails refl
 
@@ -88,7 +86,7 @@ other_block front block h = list_all-append is_ascii_digit front block ∙ rw h 
     none true = refl
     none false = refl
 
--- If the front isn't empty and denotes no number below 2^128, the front and the block together don't denote one either.
+-- A front that isn't read makes the whole text unreadable.
 pub front_not_read : (front block : List ℕ) → 0 < length front → digits_of 128 front ≡ None
     → None ≡ digits_of 128 (front ++ block)
 front_not_read front block some h = by_test (list_all is_ascii_digit front)
@@ -105,8 +103,7 @@ front_not_read front block some h = by_test (list_all is_ascii_digit front)
     weight n zero = omega (arith, ap (λ x. n * x) (pow-zero 10))
     weight n (suc k) = omega (arith, ap (λ x. n * x) (pow-succ' 10 k), weight n k)
 
--- If the block, which has 19 bytes, denotes no number below 2^64, the front and the block together denote no number
--- below 2^128.
+-- A block that isn't read makes the whole text unreadable.
 pub block_not_read : (front block : List ℕ) → length block ≡ 19 → digits_of 64 block ≡ None
     → None ≡ digits_of 128 (front ++ block)
 block_not_read front block long h = by_test (list_all is_ascii_digit block)
@@ -129,8 +126,7 @@ module _ (front block : List ℕ) (x y : ℕ) (long : length block ≡ 19) (fron
       ap (λ z. Some z) (is ∙ sym value_is)
       ∙ is_read 128 (front ++ block) (omega (arith, length-append front block)) all (omega (arith, value_is))
 
-  -- Let the front be read as `x`, and the block of 19 digits after it as `y`. Then the whole text is read as `r` if `r`
-  -- is the number `x * 10^19 + y`, or if `r` is `None` and this number isn't below 2^128.
+  -- The whole text from the front's value `x` and the block's value `y`.
   pub both_as_made : (r : Option ℕ) → IfSome r (λ n. n ≡ x * 10 ^ 19 + y) → IfSome r (λ n. n < 2 ^ 128)
       → IfNone r (2 ^ 128 ≤ x * 10 ^ 19 + y)
       → r ≡ digits_of 128 (front ++ block)
@@ -142,7 +138,7 @@ module _ (front block : List ℕ) (x y : ℕ) (long : length block ≡ 19) (fron
 first_weighs : (n : ℕ) (ds : List ℕ) → 0 < n → 10 ^ length ds ≤ digits_value_after 10 n ds
 first_weighs n ds some = omega (arith, after_weighs n ds, mul-le-mul_right {m = 1} {n = n} (10 ^ length ds) some)
 
--- A text of more than 39 bytes denotes no number below 2^128, if needless leading zeros aren't allowed.
+-- 2^128 has 39 digits.
 pub none_of_long : (text : List ℕ) → 39 < length text → None ≡ number_of 128 text
 none_of_long text long = by_test (is_plain text) (λ plain. go text long plain) (λ other. rw other refl)
   where
@@ -163,7 +159,7 @@ none_of_long text long = by_test (is_plain text) (λ plain. go text long plain) 
 
 -- ---- A text that is no longer than a block
 
--- A text of at most 19 bytes denotes the same number with the bound 2^64 as with the bound 2^128.
+-- 19 digits always fit into 64 bits.
 pub short_as_wide : (text : List ℕ) → length text ≤ 19 → digits_of 64 text ≡ digits_of 128 text
 short_as_wide text short = by_test (list_all is_ascii_digit text)
     (λ all. let small : digits_value 10 text < 10 ^ 19 = digits_value_short own text 19 all short in

@@ -3,6 +3,6 @@ use Rattle.std.specs.Prelude.{ℕ, List}
 use Rattle.std.specs.Int.{w128, from_be_bytes}
 use Rattle.md5.specs.Md5.{md5}
 
--- The hash key of the partition key `key`: the 16 bytes of its MD5, read as a big-endian number.
-abbrev pub key_hash : List ℕ → ℕ
+-- The MD5 of a partition key, as a big-endian number (PutRecord; RFC 1321).
+abbrev pub key_hash : (key : List ℕ) → ℕ
 key_hash key = from_be_bytes w128 (md5 key)

@@ -1,6 +1,4 @@
--- If the reading of a schedule ended with an outcome, the status of this outcome is right for what was written
--- (`TellsBy`) and for what was run (`RanBy`). The judgement of texts (`judge`) has the lines of a schedule among these
--- texts, up to the first text that isn't a line, and says how the schedule ends.
+-- The status of a replay's outcome is right for what was written and run.
 use Rattle.std.proofs.Common.{◌≡◌, ℕ, ◌+◌, List, [], ◌∷◌, ◌++◌, length, Option, Some, None, refl, sym, ap, ◌∙◌, subst}
 use Rattle.std.proofs.Common.{inl, inr}
 use Rattle.std.proofs.lemmas.List.{append_assoc, append-nil}
@@ -30,33 +28,28 @@ use Rattle.kcl_sim.specs.Taking.{judged_texts, Broke, Took, IsNoLine}
 use Rattle.kds_cli_runs.specs.Answered.{status_of, AreHandedOn, HasMade, Remains, RanBy, RanSafely}
 use Rattle.kds_cli_runs.specs.Told.{TellsBy, IsReplayStatus}
 
--- A premise of the lemmas here: if all of `texts` are lines of a schedule, the judgement of `texts` and `more` is the
--- judgement of `more` with the lines of `texts` in front.
+-- A premise: the judgement of texts goes on after texts that all are lines.
 abbrev pub JudgesOn : Type 0
 JudgesOn = (texts more : List (List ℕ)) (end : End) → (judged_texts texts).ending ≡ whole
     → judge 0 (texts ++ more) end ≡ preceded_by (judged_texts texts).lines (judge (length texts) more end)
 
--- A premise of the lemmas here: the output for some lines is a prefix of the output for these and more lines.
+-- A premise: the output for lines is a prefix of the output for these and more.
 abbrev pub OutputsOn : (List Line → List ℕ) → Type 0
 OutputsOn output = (ls ks : List Line) → GoesOn (output ls) (output (ls ++ ks))
 
--- If the answers to the lines `ls` and then `ks` are those to `ls`, followed by those to `ks`, `OutputsOn` holds for
--- the answers.
+-- `OutputsOn` for answers.
 pub outputs_grow : ((ran : Ran) (ls ks : List Line)
     → outputs ran (ls ++ ks) ≡ outputs ran ls ++ outputs (with_schedule ran ls) ks) → OutputsOn (outputs fresh)
-outputs_grow on ls ks = (outputs (with_schedule fresh ls) ks, on fresh ls ks)
+outputs_grow is_on ls ks = (outputs (with_schedule fresh ls) ks, is_on fresh ls ks)
 
 -- ---- Memory ran out
 
--- If memory ran out, each of the texts that were taken before is a line of a schedule.
 all_lines : (s : SimValue) (texts rest : List (List ℕ))
     → HasTaken outcome.Memory (λ t. Took s t) (λ t x. Broke s t x) texts rest
     → (judged_texts texts).ending ≡ whole
 all_lines s texts rest (inl t) = t.are_lines
 all_lines s texts rest (inr part) = part.3.are_lines
 
--- Memory ran out at the first of the texts that weren't taken. If this text is a line of a schedule, it is the first
--- line of the judgement of these texts.
 next_line : (n : ℕ) (rest later : List (List ℕ)) (text : List ℕ) (line : Line) (end : End) → rest ≡ text ∷ later
     → line_of text ≡ Some line
     → (judge n rest end).lines ≡ line ∷ (judge (n + 1) later end).lines
@@ -77,29 +70,24 @@ made_broken s texts rest end (inr part) =
     )
 
 module _ (output : List Line → List ℕ) (more : JudgesOn) (grows : OutputsOn output) where
-  -- The output for the schedule with the bytes `bytes`.
+  -- The output for the schedule's bytes.
   abbrev shown : List ℕ → List ℕ
   shown bytes = output (judged bytes).lines
 
-  -- The output for the schedule with the texts `texts` as its lines.
+  -- The output for the texts as lines.
   abbrev texts_shown : List (List ℕ) → List ℕ
   texts_shown texts = output (judged_texts texts).lines
 
-  -- The reading of the schedule `bytes` by the run `s` ended with an outcome (`Told`). The bytes `left` are left, and
-  -- the sink's bytes went from `held` to `now`.
+  -- The reading ended with an outcome, bytes left, and the sink's bytes before and after.
   abbrev pub Reads : Outcome → List ℕ → Option (List ℕ) → Option (List ℕ) → Option (List ℕ) → SimValue → Type 0
   Reads o bytes left held now s = Told o (λ t. Took s t) (λ t x. Broke s t x) IsNoLine texts_shown bytes left held now
 
-  -- If the first texts of the schedule `bytes` are all lines, the judgement of the schedule is that of the other texts,
-  -- with the lines of the first texts in front.
   after : (bytes : List ℕ) (texts rest : List (List ℕ)) → (judged_texts texts).ending ≡ whole
       → (lined bytes).texts ≡ texts ++ rest
       → judged bytes ≡ preceded_by (judged_texts texts).lines (judge (length texts) rest (lined bytes).end)
   after bytes texts rest are parts =
       ap (λ ts. judge 0 ts (lined bytes).end) parts ∙ more texts rest (lined bytes).end are
 
-  -- If the first texts of the schedule `bytes` are all lines, and no line comes after them, the schedule has just these
-  -- lines and the ending `e`.
   no_more : (bytes : List ℕ) (texts rest : List (List ℕ)) (e : Ending) → (judged_texts texts).ending ≡ whole
       → (lined bytes).texts ≡ texts ++ rest
       → judge (length texts) rest (lined bytes).end ≡ record { lines = []; ending = e }
@@ -117,7 +105,6 @@ module _ (output : List Line → List ℕ) (more : JudgesOn) (grows : OutputsOn 
   at_no_line n rest later t end is none =
       ap (λ r. judge n r end) is ∙ ap (λ o. judge_form n o (judge (n + 1) later end)) none
 
-  -- If all of the output but the part `back` was written, and `back` is empty, all of the output was written.
   all_written : (all front back : List ℕ) (held now : Option (List ℕ)) → all ≡ front ++ back → back ≡ []
       → Appends held now front → Appends held now all
   all_written all front back held now parts none w =
@@ -133,8 +120,6 @@ module _ (output : List Line → List ℕ) (more : JudgesOn) (grows : OutputsOn 
         (all_written (output ls) front back held now parts none w),
   )
 
-  -- If a first part of the output for the first lines was written, then this is also a first part of the output for the
-  -- whole schedule.
   front_written : (bytes : List ℕ) (ls later : List Line) (front back : List ℕ) (held now : Option (List ℕ))
       → (judged bytes).lines ≡ ls ++ later
       → output ls ≡ front ++ back → Appends held now front → AppendsFront held now (shown bytes)
@@ -142,8 +127,6 @@ module _ (output : List Line → List ℕ) (more : JudgesOn) (grows : OutputsOn 
       let g = grows ls later in
       (front, back ++ g.0, ap output lines ∙ g.1 ∙ ap (λ z. z ++ g.0) parts ∙ append_assoc front back g.0, w)
 
-  -- If the reading of the schedule `bytes` ended with the outcome `o`, the status of this outcome is right for the
-  -- bytes and for what was written (`TellsBy`).
   pub tells : (o : Outcome) (bytes : List ℕ) (left held now : Option (List ℕ)) (s : SimValue)
       → Reads o bytes left held now s
       → TellsBy shown (status_of o) bytes left held now
@@ -201,8 +184,6 @@ module _ (output : List Line → List ℕ) (more : JudgesOn) (grows : OutputsOn 
     remains = remains;
   }
 
-  -- If the reading of the schedule `bytes` ended with the outcome `o`, `RanBy` holds with the status of this outcome:
-  -- the first lines were run, and a first part of the output for these lines was written.
   pub ran_so : (o : Outcome) (bytes : List ℕ) (left held now : Option (List ℕ)) (s : SimValue)
       → Reads o bytes left held now s
       → RanBy output (status_of o) bytes held now s
@@ -236,29 +217,23 @@ module _ (output : List Line → List ℕ) (more : JudgesOn) (grows : OutputsOn 
       ran_with outcome.Memory bytes left held now s t (all_lines s t.texts t.rest t.taken)
       (made_broken s t.texts t.rest (lined bytes).end t.taken) tt
 
-  -- If the source tells its bytes, and the reading of these bytes ended with the outcome `o`, `TellsBy` holds for these
-  -- bytes with the status of this outcome.
   pub tells_all : (o : Outcome) (all left held now : Option (List ℕ)) (s : SimValue)
       → IfSome all (λ bytes. Reads o bytes left held now s)
       → IfSome all (λ bytes. TellsBy shown (status_of o) bytes left held now)
   tells_all o None left held now s t = tt
   tells_all o (Some bytes) left held now s t = tells o bytes left held now s t
 
-  -- If the source tells its bytes, and the reading of these bytes ended with the outcome `o`, `RanBy` holds for these
-  -- bytes with the status of this outcome.
   pub ran_all : (o : Outcome) (all left held now : Option (List ℕ)) (s : SimValue)
       → IfSome all (λ bytes. Reads o bytes left held now s)
       → IfSome all (λ bytes. RanBy output (status_of o) bytes held now s)
   ran_all o None left held now s t = tt
   ran_all o (Some bytes) left held now s t = ran_so o bytes left held now s t
 
--- The status of each outcome is one with which a replay may end.
 pub replays : (o : Outcome) → IsReplayStatus (status_of o)
 replays outcome.Whole = tt
 replays _ = tt
 
--- A premise of the lemmas here: if memory ran out in the middle of a line of the schedule `bytes`, after the first
--- lines `lines`, the turns that were made are lawful.
+-- A premise: turns made within a line before memory ran out are lawful.
 abbrev pub LawfulPart : Type 0
 LawfulPart = (bytes : List ℕ) (lines later : List Line) (line : Line) (s : SimValue)
     → (judged bytes).lines ≡ lines ++ line ∷ later
@@ -276,9 +251,7 @@ history_made status.Memory bytes lines later s lawful part parts (inr made) =
 history_made _ bytes lines later s lawful part parts made =
     subst IsHistory (sym made.history) (lawful bytes lines later parts)
 
--- The premises of the lemmas here on each schedule. The turns of the schedule's first lines are lawful, also with a
--- part of the next line (`part`). After lawful turns, the state is safe. After the schedule's first lines, the
--- processors were called for the given reads, and `AreHandedOn` holds.
+-- Premises on each schedule: lawful turns, safe states, served processors, and hand-offs that hold.
 pub record Laws : Type 0 where
   pub lawful : (bytes : List ℕ) (lines later : List Line) → (judged bytes).lines ≡ lines ++ later
       → IsHistory (with_schedule fresh lines).history
@@ -288,8 +261,6 @@ pub record Laws : Type 0 where
       → AreAllServed (with_schedule fresh lines)
   pub handed : (bytes : List ℕ) → AreHandedOn bytes
 
--- If the first lines of a schedule were run as `RanBy` states, the state after the turns is safe, the processors were
--- called for the given reads, and `IsHandedOn` holds (`RanSafely`).
 pub run_safely : (output : List Line → List ℕ) (status : Status) (bytes : List ℕ) (held now : Option (List ℕ))
     (s : SimValue)
     → Laws → RanBy output status bytes held now s → RanSafely output status bytes held now
@@ -301,7 +272,6 @@ run_safely output status bytes held now s laws so = record {
   handed = laws.handed bytes so.lines so.later so.parts;
 }
 
--- If the source tells its bytes, and `RanBy` holds for a run of these bytes, `RanSafely` holds for this run.
 pub ran_safely : (output : List Line → List ℕ) (status : Status) (all held now : Option (List ℕ)) (s : SimValue)
     → Laws → IfSome all (λ bytes. RanBy output status bytes held now s)
     → IfSome all (λ bytes. RanSafely output status bytes held now)

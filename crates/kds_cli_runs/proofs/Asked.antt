@@ -1,4 +1,4 @@
--- What is known of the end of a task is known of the end of the program whose words ask for this task.
+-- What holds at a task's end holds at the end of the program that was asked for it.
 use Rattle.std.proofs.Common.{◌≡◌, ℕ, true, false, List, Option, Some, None, refl, inl, inr, ap, ◌∙◌, subst}
 use Rattle.std.specs.Option.{IfSome}
 use Rattle.kds_ends.specs.declared.status.Status.{Status}
@@ -12,21 +12,17 @@ use Rattle.kds_cli_runs.specs.Ends.{Performed, Replayed, TaskEnds, reads_input, 
 use Rattle.kds_cli_runs.specs.Program.{asks_for_door, asks_for_input}
 use Rattle.kds_cli_runs.specs.Journal.{IsAuditedSound}
 
--- If the words ask for the task `task`, and `P` holds for this task, then `P` holds for the task in `asked`.
 pub asked_so : (P : Task → Type 0) (asked : Option Task) (task : Task) → Some task ≡ asked → P task → IfSome asked P
 asked_so P asked task is p = subst (λ (o : Option Task). IfSome o P) is p
 
--- If the words don't ask for a door to be served, the task that they ask for doesn't serve a door.
 pub no_door : (asked : Option Task) (task : Task) → Some task ≡ asked → asks_for_door asked ≡ false
     → serves_door task ≡ false
 no_door asked task is none = ap asks_for_door is ∙ none
 
--- If the words don't ask for the input to be read, the task that they ask for doesn't read the input.
 pub no_input : (asked : Option Task) (task : Task) → Some task ≡ asked → asks_for_input asked ≡ false
     → reads_input task ≡ false
 no_input asked task is none = ap asks_for_input is ∙ none
 
--- If `o` has the value `x`, `o` isn't None.
 pub not_none : {A : Type 0} (x : A) (o : Option A) → Some x ≡ o → o ≡ None → ⊥
 not_none x o is none = cc
 
@@ -34,14 +30,11 @@ sound_so : (status : Status) (input out : Around (Option (List ℕ))) → Replay
     → IfSome input.before IsAuditedSound
 sound_so status input out r done = r.sound refl done
 
--- If the words ask for a replay that writes the journal, and this replay ended with Done, an audit finds the journal
--- sound, unless the journal is too long for an audit.
 pub sound_by : (asked : Option Task) (status : Status) (ends : TaskEnds) → IfSome asked (λ t. Performed t status ends)
     → asked ≡ Some (Replay true) → status ≡ Done → IfSome ends.input.before IsAuditedSound
 sound_by asked status ends p is done =
     sound_so status ends.input ends.out (subst (λ (o : Option Task). IfSome o (λ t. Performed t status ends)) is p) done
 
--- Each task may end with Memory, whatever its input is (`Completed`).
 pub none_completed : (task : Task) (bytes : Option (List ℕ)) → Completed task Memory bytes
 none_completed (Replay journal) bytes = each _ (λ bs. inr refl) bytes
 none_completed Answer bytes = each _ (λ bs ms ending falls. inr refl) bytes
@@ -49,10 +42,8 @@ none_completed Audit bytes = each _ (λ bs. inr refl) bytes
 none_completed (Serve port passes) bytes = refl
 none_completed (Drill number workers records) bytes = inr refl
 
--- If a task ended with Memory and its door listened at no port, `Performed` holds for the task also if the door may
--- listen at ports.
-pub listens_or_not : (task : Task) (input out : Around (Option (List ℕ))) (moments : Option (List ℕ)) (listens : ℕ
-    → Type 0)
+pub listens_or_not : (task : Task) (input out : Around (Option (List ℕ))) (moments : Option (List ℕ))
+    (listens : ℕ → Type 0)
     → Performed task Memory (record { input = input; out = out; moments = moments; listens = λ port. ⊥ })
     → Performed task Memory (record { input = input; out = out; moments = moments; listens = listens })
 listens_or_not (Serve port passes) input out moments listens (inl p) = absurd p.1

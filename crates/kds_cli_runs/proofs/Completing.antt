@@ -1,5 +1,4 @@
--- If neither the input nor the output nor the door fails, a replay ends as its bytes decide, serving ends with Memory,
--- and a drill with Done or Memory.
+-- Without failing ends, a replay ends as its bytes decide, serving with Memory, and a drill with Done or Memory.
 use Rattle.std.proofs.Common.{◌≡◌, ℕ, Bool, true, false, List, Option, Some, None, refl, sym, ap, inl, inr}
 use Rattle.std.specs.Option.{IfSome}
 use Rattle.kcl_drill_run.specs.Told.{DrillTells}
@@ -23,8 +22,6 @@ module _ (bytes : List ℕ) (left held now : Option (List ℕ)) where
   by_bytes false _ read write t = absurd t
   by_bytes true _ read write t = absurd t
 
--- If a replay ended neither with Read nor with Write, its status is the one that its bytes decide, or Memory
--- (`ReplaysAs`).
 pub replays : (journal : Bool) (status : Status) (all left held now : Option (List ℕ)) → (status ≡ Read → ⊥)
     → (status ≡ Write → ⊥)
     → IfSome all (λ bytes. ReplayTells journal status bytes left held now)
@@ -33,7 +30,6 @@ replays journal status None left held now read write t = tt
 replays journal status (Some bytes) left held now read write t =
     by_bytes bytes left held now journal status read write t
 
--- If the serving of a door ended neither with Write nor with Door, it ended with Memory.
 pub serves : (status : Status) (held now : Option (List ℕ)) (listens : Type 0) → (status ≡ Write → ⊥)
     → (status ≡ Door → ⊥) → ServeTells status held now listens → status ≡ Memory
 serves Memory held now listens write door t = refl
@@ -41,7 +37,6 @@ serves Write held now listens write door t = absurd (write refl)
 serves Door held now listens write door t = absurd (door refl)
 serves _ held now listens write door t = absurd t
 
--- If a drill didn't end with Write, it ended with Done or with Memory.
 pub drills : (status : Status) (number records : ℕ) (held now : Option (List ℕ)) → (status ≡ Write → ⊥)
     → DrillTells status number records held now → EndsBy Done status
 drills Done number records held now write t = inl refl

@@ -1,4 +1,4 @@
--- The text of a run's journal grows at its end with each turn and with each line: the text so far stays as it is.
+-- A run's journal text only grows at its end.
 use Rattle.std.proofs.Common.{◌≡◌, List, [], ◌∷◌, ◌++◌, sym, ap, ◌∙◌}
 use Rattle.std.proofs.lemmas.List.{append_assoc, append-nil}
 use Rattle.kds_defs.specs.declared.command.Turn.{Turn}
@@ -10,32 +10,27 @@ use Rattle.kcl_sim.specs.Output.{Ran, fresh, with_line, with_schedule}
 use Rattle.kcl_sim.specs.Standing.{GrowsFew}
 use Rattle.kds_cli_runs.specs.Entries.{entries_text_of, lines_journal}
 
--- A premise of the lemmas here: a line of a schedule adds at most three turns to the history.
+-- A premise: a line adds at most three turns.
 abbrev pub FewTurns : Type 0
 FewTurns = (ran : Ran) (line : Line) → GrowsFew ran.history (with_line ran line).history
 
--- A premise of the lemmas here: the run of the lines `ls` and then `ks` is that of `ks` after the run of `ls`.
+-- A premise: a run of `ls` and then `ks` is the run of `ks` after `ls`.
 abbrev pub StatesOn : Type 0
 StatesOn = (ran : Ran) (ls ks : List Line) → with_schedule ran (ls ++ ks) ≡ with_schedule (with_schedule ran ls) ks
 
--- A premise of the lemmas here: the journal entries of a history with one more turn are those of the history, followed
--- by those that the turn adds.
+-- A premise: one more turn adds its entries at the end.
 abbrev pub LinesOn : Type 0
 LinesOn = (h : List Turn) (turn : Turn) → history_entries (turn ∷ h) ≡ history_entries h ++ added_entries h turn
 
--- A premise of the lemmas here: the text of two lists of entries, one after the other, is the text of the first,
--- followed by that of the second.
+-- A premise: the text of two lists of entries is the first text, then the second.
 abbrev pub TextOn : Type 0
 TextOn = (xs ys : List EntryLine) → entries_text (xs ++ ys) ≡ entries_text xs ++ entries_text ys
 
--- The text of the entries of a history with one more turn is that of the history, followed by the text of the entries
--- that the turn adds.
 turn_more : LinesOn → TextOn → (h : List Turn) (turn : Turn)
     → entries_text_of (turn ∷ h) ≡ entries_text_of h ++ entries_text (added_entries h turn)
 turn_more lines_on text_on h turn =
     ap entries_text (lines_on h turn) ∙ text_on (history_entries h) (added_entries h turn)
 
--- The text of the entries of a history is a prefix of the text for the history with one more turn.
 pub turn_grows : LinesOn → TextOn → (h : List Turn) (turn : Turn)
     → GoesOn (entries_text_of h) (entries_text_of (turn ∷ h))
 turn_grows lines_on text_on h turn = (entries_text (added_entries h turn), turn_more lines_on text_on h turn)
@@ -62,7 +57,6 @@ schedule_grows lines_on text_on few ran (k ∷ ks) =
     let b = schedule_grows lines_on text_on few (with_line ran k) ks in
     (a.0 ++ b.0, b.1 ∙ ap (λ z. z ++ b.0) a.1 ∙ append_assoc (entries_text_of ran.history) a.0 b.0)
 
--- The text of the entries of the lines `ls` is a prefix of the text for `ls` and then `ks`.
 pub all_grow : LinesOn → TextOn → FewTurns → StatesOn → (ls ks : List Line)
     → GoesOn (lines_journal ls) (lines_journal (ls ++ ks))
 all_grow lines_on text_on few states ls ks =

@@ -1,5 +1,4 @@
--- A replay that writes the journal writes the first line, the entries and the last line. The replay has written all of
--- this or a first part, as its status says (`JournalTells`, `RanBy`).
+-- A journal-writing replay writes first line, entries and last line, or the part that its status says.
 use Rattle.std.proofs.Common.{◌≡◌, ◌≢◌, ◌<◌, ℕ, true, false, List, [], ◌∷◌, ◌++◌, length, Option, Some, None, refl, sym}
 use Rattle.std.proofs.Common.{ap, ◌∙◌, subst, inl, arith}
 use Rattle.std.proofs.lemmas.List.{append_assoc, append-nil, length-append}
@@ -27,10 +26,6 @@ use Rattle.kds_cli_runs.specs.Journal.{EndTells, IsAuditedSound, JournalTells, e
 use Rattle.kds_cli_runs.specs.Journal.{recorded}
 use Rattle.kds_cli_runs.specs.Told.{TellsBy}
 
--- To write nothing is to write a first part of any text: the empty part.
-pub nothing_written : (held : Option (List ℕ)) (xs : List ℕ) → AppendsFront held held xs
-nothing_written held xs = ([], xs, refl, Appends-nil held)
-
 -- ---- A first part that isn't the whole text
 
 longer : (xs ys : List ℕ) → 0 < length ys → 0 < length (xs ++ ys)
@@ -42,12 +37,9 @@ some_last c = longer (end_spelling c) (10 ∷ []) (omega arith)
 some_behind : (xs : List ℕ) (c : ℕ) → 0 < length (xs ++ last_line c)
 some_behind xs c = longer xs (last_line c) (some_last c)
 
--- If nothing of the last line was written, then a first part of this line was written, and not the whole line
--- (`AppendsPart`).
 no_last : (c : ℕ) (held now : Option (List ℕ)) → Appends held now [] → AppendsPart held now (last_line c)
 no_last c held now e = ([], last_line c, some_last c, refl, e)
 
--- If nothing was written, then a first part of the journal of the history `h` was written, and not the whole journal.
 pub nothing_recorded : (h : List Turn) (held : Option (List ℕ)) → AppendsPart held held (journal_text h)
 nothing_recorded h held =
     ([], journal_text h, some_behind (first_line ++ entries_text (history_entries h)) (clock h), refl, Appends-nil held)
@@ -60,14 +52,12 @@ broke_first bytes left held now f =
     front_part held now first_line (entries bytes ++ last_line (clock (history bytes))) f
     (some_behind (entries bytes) (clock (history bytes)))
 
--- If only a first part of the journal's first line was written, `JournalTells` holds with Write.
 pub first_broke : (all left held now : Option (List ℕ)) (line : List ℕ) → line ≡ first_line → AppendsFront held now line
     → IfSome all (λ bytes. JournalTells Write bytes left held now)
 first_broke None left held now line is f = tt
 first_broke (Some bytes) left held now line is f =
     broke_first bytes left held now (subst (λ (l : List ℕ). AppendsFront held now l) is f)
 
--- If `line` was written, and `line` is the journal's first line, then the journal's first line was written.
 pub first_there : (held now : Option (List ℕ)) (line : List ℕ) → line ≡ first_line → Appends held now line
     → Appends held now first_line
 first_there held now line is h = subst (λ (l : List ℕ). Appends held now l) is h
@@ -90,8 +80,7 @@ begins Write bytes left a b c not_done h t = part_of_all bytes a c (front_later 
 begins Memory bytes left a b c not_done h t = part_of_all bytes a c (front_later a b c first_line (entries bytes) h t)
 begins _ bytes left a b c not_done h t = absurd t
 
--- If the first line was written, and then the entries as `TellsBy` states for a status `st` other than Done, then
--- `JournalTells` holds with `st`.
+-- A status other than Done stays right with the first line in front.
 pub begins_all : (st : Status) (all left a b c : Option (List ℕ)) (line : List ℕ) → line ≡ first_line → (st ≡ Done → ⊥)
     → Appends a b line
     → IfSome all (λ bytes. TellsBy entries st bytes left b c) → IfSome all (λ bytes. JournalTells st bytes left a c)
@@ -101,7 +90,6 @@ begins_all st (Some bytes) left a b c line is not_done h t =
 
 -- ---- The last line after the entries
 
--- If a replay of the schedule `bytes` ended with Done, all turns of the schedule were made.
 all_ran : (bytes : List ℕ) (b c : Option (List ℕ)) (s : SimValue) → RanBy lines_journal Done bytes b c s
     → s.history ≡ history bytes
 all_ran bytes b c s r =
@@ -125,51 +113,42 @@ ends_at Memory bytes left a b c d h t e =
     (no_last (clock (history bytes)) c d e)
 ends_at _ bytes left a b c d h t e = absurd e
 
--- Assume that the first line (`line`) and then all entries were written. If the last line was then written as
--- `EndTells` states for the status `st`, `JournalTells` holds with `st`.
 pub ends_all : (st : Status) (all left a b c d : Option (List ℕ)) (line : List ℕ) (s : SimValue) (last : ℕ)
     → line ≡ first_line → last ≡ clock s.history → Appends a b line
     → IfSome all (λ bytes. TellsBy entries Done bytes left b c)
     → IfSome all (λ bytes. RanBy lines_journal Done bytes b c s)
     → EndTells st last c d → IfSome all (λ bytes. JournalTells st bytes left a d)
-ends_all st None left a b c d line s last is at h t r e = tt
-ends_all st (Some bytes) left a b c d line s last is at h t r e =
+ends_all st None left a b c d line s last is is_at h t r e = tt
+ends_all st (Some bytes) left a b c d line s last is is_at h t r e =
     ends_at st bytes left a b c d (subst (λ (l : List ℕ). Appends a b l) is h) t
-    (subst (λ (n : ℕ). EndTells st n c d) (at ∙ ap clock (all_ran bytes b c s r)) e)
+    (subst (λ (n : ℕ). EndTells st n c d) (is_at ∙ ap clock (all_ran bytes b c s r)) e)
 
--- Assume that the first line and then all entries were written, with the status `entered`, which is Done. If the last
--- line was then written as `EndTells` states for the status `st`, `JournalTells` holds with `st`.
+-- If all entries were written, the run ends with the status `st` of writing the journal's last line.
 pub ends_with : (entered st : Status) (all left a b c d : Option (List ℕ)) (s : SimValue) (last : ℕ) → entered ≡ Done
     → last ≡ clock s.history → Appends a b first_line
     → IfSome all (λ bytes. TellsBy entries entered bytes left b c)
     → IfSome all (λ bytes. RanBy lines_journal entered bytes b c s)
     → EndTells st last c d → IfSome all (λ bytes. JournalTells st bytes left a d)
-ends_with entered st all left a b c d s last done at h t r e =
-    ends_all st all left a b c d first_line s last refl at h
+ends_with entered st all left a b c d s last done is_at h t r e =
+    ends_all st all left a b c d first_line s last refl is_at h
     (subst (λ (x : Status). IfSome all (λ bytes. TellsBy entries x bytes left b c)) done t)
     (subst (λ (x : Status). IfSome all (λ bytes. RanBy lines_journal x bytes b c s)) done r) e
 
--- Write isn't Done.
 pub no_write : Write ≡ Done → ⊥
 no_write h = cc
 
--- False isn't true.
 pub false_true : false ≡ true → ⊥
 false_true h = absurd cc
 
--- If the test `is_done` is true of a status, the status is Done.
 pub done_by : (st : Status) → is_done st ≡ true → st ≡ Done
 done_by Done h = refl
 done_by _ h = absurd (false_true h)
 
--- If the test `is_done` is false of a status, the status isn't Done.
 pub not_done_by : (st : Status) → is_done st ≡ false → st ≡ Done → ⊥
 not_done_by st h is = absurd (false_true (sym h ∙ ap is_done is))
 
 -- ---- The numbers in the turns
 
--- The replay ended with Done. If the numbers in the turns that were made fit into their types (`HaveBits`), then the
--- numbers in all turns of the schedule fit into their types.
 pub bits_all : (entered : Status) (all b c : Option (List ℕ)) (s : SimValue) → entered ≡ Done → HaveBits s.history
     → IfSome all (λ bytes. RanBy lines_journal entered bytes b c s) → IfSome all (λ bytes. HaveBits (history bytes))
 bits_all entered None b c s done a r = tt
@@ -177,8 +156,6 @@ bits_all entered (Some bytes) b c s done a r =
     subst (λ (z : List Turn). HaveBits z)
     (all_ran bytes b c s (subst (λ (x : Status). RanBy lines_journal x bytes b c s) done r)) a
 
--- Assume that the turns of each schedule are lawful. If the numbers in the turns of a schedule fit into their types
--- (`HaveBits`), an audit finds the journal of this schedule sound, unless the journal is too long for an audit.
 pub audited_all : (all : Option (List ℕ)) → ((bytes : List ℕ) → IsHistory (history bytes))
     → ((h : List Turn) → IsHistory h → HaveBits h → audit_of (journal_text h) ≢ over
     → audit_of (journal_text h) ≡ sound (counted 0 (history_entries h)))
@@ -197,8 +174,6 @@ between first all front back rest e =
     ap (λ z. first ++ (z ++ rest)) e ∙ ap (λ z. first ++ z) (append_assoc front back rest)
     ∙ sym (append_assoc first front (back ++ rest))
 
--- The first line was written, and then the entries of the lines that were run (`RanBy`), with a status other than Done.
--- Then `RanBy` holds for the output that also has the first line.
 ran_behind : (st : Status) (bytes : List ℕ) (a b c : Option (List ℕ)) (s : SimValue) → (st ≡ Done → ⊥)
     → Appends a b first_line
     → RanBy lines_journal st bytes b c s → RanBy (recorded st) st bytes a c s
@@ -239,8 +214,6 @@ ran_behind _ bytes a b c s not_done h r = record {
   remains = r.remains;
 }
 
--- If the source tells its bytes, `RanBy` for the entries alone gives `RanBy` for the first line and the entries. The
--- status must be other than Done, and the first line must have been written before.
 pub ran_behind_all : (st : Status) (all a b c : Option (List ℕ)) (s : SimValue) → (st ≡ Done → ⊥)
     → Appends a b first_line
     → IfSome all (λ bytes. RanBy lines_journal st bytes b c s)
@@ -248,8 +221,6 @@ pub ran_behind_all : (st : Status) (all a b c : Option (List ℕ)) (s : SimValue
 ran_behind_all st None a b c s not_done h r = tt
 ran_behind_all st (Some bytes) a b c s not_done h r = ran_behind st bytes a b c s not_done h r
 
--- If the first line was written, and then all entries of the lines that were run, the output is the first line followed
--- by these entries.
 ran_whole : (bytes : List ℕ) (a b c : Option (List ℕ)) (s : SimValue) → Appends a b first_line
     → (r : RanBy lines_journal Done bytes b c s)
     → Appends a c (first_line ++ lines_journal r.lines)
@@ -302,22 +273,19 @@ ran_ended_all : (st : Status) (all a b c d : Option (List ℕ)) (s : SimValue) (
     → Appends a b first_line
     → IfSome all (λ bytes. RanBy lines_journal Done bytes b c s) → EndTells st last c d
     → IfSome all (λ bytes. RanBy (recorded st) st bytes a d s)
-ran_ended_all st None a b c d s last at h r e = tt
-ran_ended_all st (Some bytes) a b c d s last at h r e =
-    ran_ended st bytes a b c d s h r (subst (λ (n : ℕ). EndTells st n c d) (at ∙ ap clock r.made.history) e)
+ran_ended_all st None a b c d s last is_at h r e = tt
+ran_ended_all st (Some bytes) a b c d s last is_at h r e =
+    ran_ended st bytes a b c d s h r (subst (λ (n : ℕ). EndTells st n c d) (is_at ∙ ap clock r.made.history) e)
 
--- Assume that the first line and all entries were written, and that then the last line was written whole, in part or
--- not at all, as the status `st` says (`EndTells`). Then `RanBy` holds with `st` for the whole output: the first line,
--- the entries, and what was written of the last line.
+-- The whole output is first line, entries, and what was written of the last line.
 pub ran_ends_with : (entered st : Status) (all a b c d : Option (List ℕ)) (s : SimValue) (last : ℕ) → entered ≡ Done
     → last ≡ clock s.history → Appends a b first_line
     → IfSome all (λ bytes. RanBy lines_journal entered bytes b c s) → EndTells st last c d
     → IfSome all (λ bytes. RanBy (recorded st) st bytes a d s)
-ran_ends_with entered st all a b c d s last done at h r e =
-    ran_ended_all st all a b c d s last at h
+ran_ends_with entered st all a b c d s last done is_at h r e =
+    ran_ended_all st all a b c d s last is_at h
     (subst (λ (x : Status). IfSome all (λ bytes. RanBy lines_journal x bytes b c s)) done r) e
 
--- If no line was run, and only a first part of the first line was written, `RanBy` holds with Write.
 none_ran : (bytes : List ℕ) (a b : Option (List ℕ)) (s : SimValue) → RunsSo s fresh → AppendsFront a b first_line
     → RanBy (recorded Write) Write bytes a b s
 none_ran bytes a b s made f =
@@ -334,8 +302,6 @@ none_ran bytes a b s made f =
       remains = tt;
     }
 
--- If the source tells its bytes, no line was run, and only a first part of the first line was written, `RanBy` holds of
--- these bytes with Write.
 pub none_ran_all : (all a b : Option (List ℕ)) (s : SimValue) (line : List ℕ) → line ≡ first_line → RunsSo s fresh
     → AppendsFront a b line
     → IfSome all (λ bytes. RanBy (recorded Write) Write bytes a b s)

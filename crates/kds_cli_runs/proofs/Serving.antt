@@ -1,4 +1,4 @@
--- When the serving of a door ends, the status is right for what was written (`ServeTells`).
+-- The status of serving is right for what was written.
 use Rattle.std.proofs.Common.{◌≡◌, ℕ, List, subst, inl, Option}
 use Rattle.std.specs.Io.KnownBytes.{Appends}
 use Rattle.kds_ends.specs.declared.status.Status.{Status}
@@ -7,8 +7,6 @@ use Rattle.kds_server.specs.Texts.{IsCrewStatus}
 use Rattle.kds_cli_runs.specs.Ends.{ServeTells}
 use Rattle.kds_cli_runs.specs.Words.{listening}
 
--- If the line `listening` was written, the door listens, and the crew ended with `status`, `ServeTells` holds with this
--- status.
 pub crew_tells : (status : Status) (held now : Option (List ℕ)) (text : List ℕ) (listens : Type 0) → text ≡ listening
     → IsCrewStatus status → Appends held now text → listens
     → ServeTells status held now listens

@@ -15,11 +15,11 @@ use Rattle.kcl_sim.specs.Schedule.{history, judged}
 use Rattle.kcl_sim.specs.Standing.{SimValue}
 use Rattle.kds_cli_runs.specs.Answered.{RanBy}
 use Rattle.kds_server.specs.Around.{around}
+use Rattle.kds_server.proofs.Ends.{front_none}
 use Rattle.kds_cli_runs.specs.Ends.{Answers, Audited, Performed, Replayed, ReplayTells, shown}
 use Rattle.kds_cli_runs.proofs.Answering.{Laws, run_safely}
-use Rattle.kds_cli_runs.proofs.Journaling.{nothing_recorded, nothing_written}
+use Rattle.kds_cli_runs.proofs.Journaling.{nothing_recorded}
 
--- A run in which no turn was made.
 still : SimValue
 still = record { history = []; cleared_at = []; workers = []; unfinished = false }
 
@@ -42,11 +42,9 @@ tells_none : (all left held : Option (List ℕ)) → IfSome all (λ bytes. Tells
 tells_none None left held = tt
 tells_none (Some bytes) left held = record {
   first = λ ms ending falls. (commands ms, refl);
-  written = λ ms ending falls later. nothing_written held _;
+  written = λ ms ending falls later. front_none held _;
 }
 
--- If memory ran out before anything was read, then `Answers` holds with Memory: the connection had no command, and no
--- response was written.
 unserved : (all left moments held : Option (List ℕ)) → Answers Memory (around all left) (around held held) moments
 unserved all left moments held = record {
   kind = tt;
@@ -63,12 +61,12 @@ unserved all left moments held = record {
 
 told_none : (journal : Bool) (bytes : List ℕ) (left held : Option (List ℕ))
     → ReplayTells journal Memory bytes left held held
-told_none false bytes left held = nothing_written held _
+told_none false bytes left held = front_none held _
 told_none true bytes left held = nothing_recorded (history bytes) held
 
 audit_none : (all held : Option (List ℕ)) → IfSome all (λ bytes. TellsAudit Memory bytes held held)
 audit_none None held = tt
-audit_none (Some bytes) held = nothing_written held _
+audit_none (Some bytes) held = front_none held _
 
 not_done : Memory ≡ Done → ⊥
 not_done e = cc
@@ -96,8 +94,6 @@ module _ (laws : Laws) where
     sound = λ j e. absurd (not_done e);
   }
 
-  -- If memory ran out before anything was read or written, `Performed` holds with Memory for each task, if the laws on
-  -- schedules are given.
   pub wanting : (task : Task) (bytes left moments held : Option (List ℕ)) (listens : ℕ → Type 0)
       → Performed task Memory (record {
         input = around bytes left;

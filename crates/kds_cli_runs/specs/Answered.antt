@@ -1,5 +1,4 @@
--- Defines which lines of a schedule were run when a replay of this schedule ended, and how much of the output for these
--- lines was written.
+-- Which lines of a schedule a replay ran, and how much of their output it wrote.
 use Rattle.std.specs.Prelude.{◌≡◌, ◌⊎◌, ℕ, List, [], ◌∷◌, ◌++◌}
 use Rattle.std.specs.declared.option.Option.{Option}
 use Rattle.std.specs.Io.KnownBytes.{Appends}
@@ -15,9 +14,8 @@ use Rattle.kcl_sim.specs.Schedule.{history, judged}
 use Rattle.kcl_sim.specs.Serving.{AreAllServed, AreHandedOff, AreNeverReadAgain}
 use Rattle.kcl_sim.specs.Standing.{HasRunPart, RunsSo, SimValue}
 
--- The status of a replay, by the outcome of the reading of its input. A last line without a line feed counts as a bad
--- line.
-abbrev pub status_of : Outcome → Status
+-- The replay's status by its reading's outcome; a last line without line feed is a bad line.
+abbrev pub status_of : (outcome : Outcome) → Status
 status_of outcome.Whole = Done
 status_of (outcome.Unfinished n) = BadLine n
 status_of (outcome.Stopped n) = BadLine n
@@ -26,27 +24,22 @@ status_of outcome.Read = Read
 status_of outcome.Write = Write
 status_of outcome.Memory = Memory
 
--- The lines `later` weren't run, and the part `back` of the output wasn't written. With Write and Memory, lines and
--- output may be left over. With Read, lines may be left over, but no output. With any other status, neither lines nor
--- output is left over.
-abbrev pub Remains : Status → List Line → List ℕ → Type 0
+-- Lines and output may be left with Write and Memory, lines alone with Read, and otherwise nothing.
+abbrev pub Remains : (s : Status) (later : List Line) (back : List ℕ) → Type 0
 Remains Write later back = Unit {0}
 Remains Memory later back = Unit {0}
 Remains Read later back = back ≡ []
 Remains s later back = (later ≡ []) × (back ≡ [])
 
--- The run `s` is that of the lines `lines` (`RunsSo`), and the lines `later` come after these. If the status is Memory,
--- the first turns of the next line may have been made too.
-abbrev pub HasMade : Status → List Line → List Line → SimValue → Type 0
+-- The lines were run; with Memory, the next line's first turns may have been made too.
+abbrev pub HasMade : (status : Status) (lines later : List Line) (s : SimValue) → Type 0
 HasMade Memory lines later s =
     RunsSo s (with_schedule fresh lines)
     ⊎ ((line : Line) × (rest : List Line) × (later ≡ line ∷ rest) × HasRunPart s (with_schedule fresh lines) line)
 HasMade _ lines later s = RunsSo s (with_schedule fresh lines)
 
--- The first lines of the schedule `bytes` were run, and `s` is this run. A first part of the output for these lines was
--- written, which took the sink's bytes from `before` to `after`. `Remains` says what may be left over with `status`. A
--- bad line, or one that is too long, ends the schedule and isn't one of its lines.
-pub record RanBy (output : List Line → List ℕ) (status : Status) (bytes : List ℕ) (before after : Option (List ℕ))
+-- The schedule's first lines, up to a bad or too long one, were run, and a prefix of their output was written.
+pub record RanBy (output : List Line → List ℕ) (status : Status) (bytes : List ℕ) (old new : Option (List ℕ))
     (s : SimValue) : Type 0 where
   pub lines : List Line
   pub later : List Line
@@ -55,33 +48,27 @@ pub record RanBy (output : List Line → List ℕ) (status : Status) (bytes : Li
   pub front : List ℕ
   pub back : List ℕ
   pub output_is : output lines ≡ front ++ back
-  pub written : Appends before after front
+  pub written : Appends old new front
   pub remains : Remains status later back
 
--- The first lines of the schedule `bytes` were run, and a first part of the answers to these lines was written
--- (`RanBy`).
-abbrev pub RanSo : Status → List ℕ → Option (List ℕ) → Option (List ℕ) → SimValue → Type 0
-RanSo status bytes before after s = RanBy (outputs fresh) status bytes before after s
+-- `RanBy` for a replay that writes the answers.
+abbrev pub RanSo : (status : Status) (bytes : List ℕ) (old new : Option (List ℕ)) (s : SimValue) → Type 0
+RanSo status bytes old new s = RanBy (outputs fresh) status bytes old new s
 
--- The first lines `lines` of the schedule `bytes` were run. For each hand-off that freed its row, each batch that the
--- hand-off's processor was handed is given. If the row still exists, its checkpoint isn't below what was given
--- (`AreHandedOff`). In the whole schedule, a tenure of the hand-off's key that begins right after these lines reads
--- nothing that was given in the hand-off's tenure (`AreNeverReadAgain`).
-abbrev pub IsHandedOn : List ℕ → List Line → Type 0
+-- Once a hand-off freed its row, its batches are given and marked, and a tenure begun next reads none of them.
+abbrev pub IsHandedOn : (bytes : List ℕ) (lines : List Line) → Type 0
 IsHandedOn bytes lines = AreHandedOff (with_schedule fresh lines)
     × AreNeverReadAgain (history bytes) (with_schedule fresh lines)
 
--- After each line of the schedule `bytes`, `IsHandedOn` holds for the lines up to this line.
-abbrev pub AreHandedOn : List ℕ → Type 0
+-- `IsHandedOn` holds after each line of the schedule.
+abbrev pub AreHandedOn : (bytes : List ℕ) → Type 0
 AreHandedOn bytes = (lines later : List Line) → (judged bytes).lines ≡ lines ++ later → IsHandedOn bytes lines
 
--- The first lines of the schedule `bytes` were run, and a first part of the output for these lines was written
--- (`RanBy`). The state after the turns of this run is safe at the run's clock, the processors of the workers were
--- called for the given reads, and `IsHandedOn` holds for these lines.
-pub record RanSafely (output : List Line → List ℕ) (status : Status) (bytes : List ℕ) (before after : Option (List ℕ)) :
+-- The run is as in `RanBy`, its state is safe, its processors were served, and its hand-offs hold.
+pub record RanSafely (output : List Line → List ℕ) (status : Status) (bytes : List ℕ) (old new : Option (List ℕ)) :
     Type 0 where
   pub sim : SimValue
-  pub so : RanBy output status bytes before after sim
+  pub so : RanBy output status bytes old new sim
   pub safe : IsSafe (journal sim.history) (clock sim.history)
   pub served : AreAllServed (with_schedule fresh so.lines)
   pub handed : IsHandedOn bytes so.lines

@@ -1,4 +1,4 @@
--- Defines what is written by a replay that writes the schedule's journal in place of the answers.
+-- What a replay writes that writes the schedule's journal instead of answers.
 use Rattle.std.specs.Prelude.{◌≡◌, ◌≢◌, ℕ, List, [], ◌∷◌, ◌++◌, Bool, true, false, Some}
 use Rattle.std.specs.declared.option.Option.{Option}
 use Rattle.std.specs.Io.KnownBytes.{Appends}
@@ -14,33 +14,27 @@ use Rattle.kcl_sim.specs.Output.{fresh, with_schedule}
 use Rattle.kds_cli_runs.specs.Entries.{lines_journal}
 use Rattle.kcl_sim.specs.Schedule.{whole, too_long, bad_line, ending, history, judged}
 
--- The text of the entries that all lines of the schedule `bytes` make.
-abbrev pub entries : List ℕ → List ℕ
+-- The text of the entries that the schedule's lines make.
+abbrev pub entries : (bytes : List ℕ) → List ℕ
 entries bytes = lines_journal (judged bytes).lines
 
--- The journal's first line, with its line feed.
+-- The journal's first line, with line feed.
 abbrev pub first_line : List ℕ
 first_line = heading ++ 10 ∷ []
 
--- The journal's last line, for the clock `clock`, with its line feed.
-abbrev pub last_line : ℕ → List ℕ
+-- The journal's last line, with line feed.
+abbrev pub last_line : (clock : ℕ) → List ℕ
 last_line clock = end_spelling clock ++ 10 ∷ []
 
--- The output for the lines that were run, by the status at the end. With Done, Write and Memory, this output is the
--- whole journal, of which only a part may have been written. With any other status, this output is the journal without
--- its last line.
-abbrev pub recorded : Status → List Line → List ℕ
+-- The output for the lines run: the whole journal with Done, Write and Memory, else without its last line.
+abbrev pub recorded : (status : Status) (lines : List Line) → List ℕ
 recorded Done lines = journal_text (with_schedule fresh lines).history
 recorded Write lines = journal_text (with_schedule fresh lines).history
 recorded Memory lines = journal_text (with_schedule fresh lines).history
 recorded _ lines = first_line ++ lines_journal lines
 
--- What the status of a replay says about all bytes of the schedule, the bytes that are left of the schedule, and the
--- bytes of the sink before (`held`) and after (`now`). Done: the schedule has no bad line, and its whole journal was
--- written. BadLine and TooLong: the schedule ends in this way, and the journal of the lines before was written without
--- its last line. Read: the journal of the lines that were read was written without its last line. Write and Memory: a
--- part of the journal was written, not all of it. So the last line was written whole exactly with Done.
-abbrev pub JournalTells : Status → List ℕ → Option (List ℕ) → Option (List ℕ) → Option (List ℕ) → Type 0
+-- By status: Done wrote the journal; BadLine, TooLong, Read all but its last line; Write, Memory a proper prefix.
+abbrev pub JournalTells : (status : Status) (bytes : List ℕ) (left held now : Option (List ℕ)) → Type 0
 JournalTells Done bytes left held now = (ending bytes ≡ whole) × Appends held now (journal_text (history bytes))
 JournalTells (BadLine n) bytes left held now =
     (ending bytes ≡ bad_line n) × Appends held now (first_line ++ entries bytes)
@@ -51,22 +45,20 @@ JournalTells Write bytes left held now = AppendsPart held now (journal_text (his
 JournalTells Memory bytes left held now = AppendsPart held now (journal_text (history bytes))
 JournalTells _ bytes left held now = ⊥
 
--- An audit finds the journal of the schedule `bytes` sound, with all of its entries, unless a line of the journal or
--- the whole journal is too long for an audit.
-abbrev pub IsAuditedSound : List ℕ → Type 0
+-- An audit finds the schedule's journal sound, with all entries, unless something is too long for it.
+abbrev pub IsAuditedSound : (bytes : List ℕ) → Type 0
 IsAuditedSound bytes =
     audit_of (journal_text (history bytes)) ≢ over
     → audit_of (journal_text (history bytes)) ≡ sound (counted 0 (history_entries (history bytes)))
 
--- The last line of a journal with the clock `clock` was written whole with Done, in part with Write, and not at all
--- with Memory. No other status is possible.
-abbrev pub EndTells : Status → ℕ → Option (List ℕ) → Option (List ℕ) → Type 0
+-- The last line was written whole with Done, in part with Write, and not at all with Memory.
+abbrev pub EndTells : (status : Status) (clock : ℕ) (held now : Option (List ℕ)) → Type 0
 EndTells Done clock held now = Appends held now (last_line clock)
 EndTells Write clock held now = AppendsPart held now (last_line clock)
 EndTells Memory clock held now = Appends held now []
 EndTells _ clock held now = ⊥
 
--- Whether the status is Done, which means that the schedule was read to its end and each of its lines was run.
-abbrev pub is_done : Status → Bool
+-- Whether the whole schedule was read and run.
+abbrev pub is_done : (status : Status) → Bool
 is_done Done = true
 is_done _ = false

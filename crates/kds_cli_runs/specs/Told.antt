@@ -1,4 +1,4 @@
--- Defines what the status of a replay says about the bytes of the schedule and about what was written.
+-- What a replay's status says of the schedule's bytes and of what was written.
 use Rattle.std.specs.Prelude.{◌≡◌, ℕ, List, ◌++◌, Some}
 use Rattle.std.specs.declared.option.Option.{Option}
 use Rattle.std.specs.Io.KnownBytes.{Appends}
@@ -7,11 +7,9 @@ use Rattle.kds_ends.specs.declared.status.Status.TheVariants.{Done, BadLine, Rea
 use Rattle.kds_ends.specs.Causes.{AppendsFront}
 use Rattle.kcl_sim.specs.Schedule.{whole, too_long, bad_line, ending, text}
 
--- What the status of a replay says about all bytes of the schedule, the bytes that are left of the schedule, and the
--- bytes of the sink before (`held`) and after (`now`). `shown` gives the output for bytes. Done, BadLine and TooLong:
--- the schedule ends in this way, and the output for all bytes was written. Read: the output for the bytes that were
--- read was written. Write and Memory: a first part of the output for all bytes was written.
-abbrev pub TellsBy : (List ℕ → List ℕ) → Status → List ℕ → Option (List ℕ) → Option (List ℕ) → Option (List ℕ) → Type 0
+-- By a replay's status: all output was written; with Read, for the bytes read; with Write and Memory, a prefix.
+abbrev pub TellsBy : (shown : List ℕ → List ℕ) (status : Status) (bytes : List ℕ) (left held now : Option (List ℕ)) →
+    Type 0
 TellsBy shown Done bytes left held now = (ending bytes ≡ whole) × Appends held now (shown bytes)
 TellsBy shown (BadLine n) bytes left held now = (ending bytes ≡ bad_line n) × Appends held now (shown bytes)
 TellsBy shown TooLong bytes left held now = (ending bytes ≡ too_long) × Appends held now (shown bytes)
@@ -21,12 +19,12 @@ TellsBy shown Write bytes left held now = AppendsFront held now (shown bytes)
 TellsBy shown Memory bytes left held now = AppendsFront held now (shown bytes)
 TellsBy shown _ bytes left held now = ⊥
 
--- What the status says about a replay that writes the answers (`TellsBy`).
-abbrev pub Tells : Status → List ℕ → Option (List ℕ) → Option (List ℕ) → Option (List ℕ) → Type 0
+-- `TellsBy` for a replay that writes the answers.
+abbrev pub Tells : (status : Status) (bytes : List ℕ) (left held now : Option (List ℕ)) → Type 0
 Tells status bytes left held now = TellsBy text status bytes left held now
 
--- The status is one with which a replay may end.
-abbrev pub IsReplayStatus : Status → Type 0
+-- A replay may end with the status.
+abbrev pub IsReplayStatus : (status : Status) → Type 0
 IsReplayStatus Done = Unit {0}
 IsReplayStatus (BadLine n) = Unit {0}
 IsReplayStatus TooLong = Unit {0}

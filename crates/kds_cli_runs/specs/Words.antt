@@ -1,13 +1,11 @@
--- Defines the texts that the program writes itself: one on the error output for each status, and one once a door
--- listens.
+-- The program's own texts: one on the error output for each status, and one once a door listens.
 use Rattle.std.specs.Prelude.{ℕ, List, [], ◌∷◌, ◌++◌, codes, decimal}
 use Rattle.kds_ends.specs.declared.status.Status.{Status}
 use Rattle.kds_ends.specs.declared.status.Status.TheVariants.{Done, Unsound, Usage, BadLine, Read, Write, Memory, Cut}
 use Rattle.kds_ends.specs.declared.status.Status.TheVariants.{Door, TooLong, Refused}
 
--- The text on the error output for each status, with its line feed. It is empty for Done, and for Unsound, which the
--- audit's output states.
-abbrev pub error_text : Status → List ℕ
+-- The error output's text with line feed; empty for Done, and for Unsound, which the audit's output states.
+abbrev pub error_text : (status : Status) → List ℕ
 error_text Done = []
 error_text Unsound = []
 error_text Usage = codes
@@ -21,6 +19,6 @@ error_text Door = codes "door fault" ++ 10 ∷ []
 error_text TooLong = codes "input too long" ++ 10 ∷ []
 error_text Refused = codes "message refused" ++ 10 ∷ []
 
--- The line that is written once a door listens, with its line feed.
+-- The line written once a door listens, with line feed.
 abbrev pub listening : List ℕ
 listening = codes "listening" ++ 10 ∷ []

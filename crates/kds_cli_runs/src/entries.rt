@@ -45,7 +45,7 @@ impl Journal {
 
 /// Appends the entries `lines` to `text`, each followed by a line feed, and returns the text.
 fn print_entries(alloc: Global, lines: &[EntryLine], text: Octets) -> Result<Octets, Memory>
-    ensures { IfOk result (λ to. to ≡ text ++ entries_text lines.now) }
+    ensures { IfOk result (λ output. output ≡ text ++ entries_text lines.now) }
 {
     let mut text = text;
     for line in lines {

@@ -1,12 +1,10 @@
--- If a subcommand is added to a command, the description of the command gets this subcommand too.
+-- Adding a subcommand to a command adds it to its description.
 use Rattle.std.proofs.Common.{Bool, ap, ap₂, ◌∙◌}
 use Rattle.std.specs.Prelude.{◌||◌}
 use Rattle.clap.specs.Words.{App, AddsSubcommand, with_subcommand}
 use Rattle.clap.specs.declared.builder.command.Command.{Command}
 use Rattle.kds_cli_words.specs.Apps.{HasApp}
 
--- The command `new` is the command `old` with the subcommand `sub` added. If `old` has the description `a`, and `sub`
--- has the description `b`, then `new` has the description `a` with `b` as a further subcommand.
 pub added : (old sub new : Command) (a b : App) → AddsSubcommand old sub new → HasApp old a → HasApp sub b
     → HasApp new (with_subcommand a b.top)
 added old sub new a b h is sub_is =

@@ -1,5 +1,4 @@
--- The task that `clap` reads from words is the one of the definitions, for each command and for words that are no
--- command.
+-- `clap` reads from all words the task that the definitions give.
 use Rattle.std.proofs.Common.{◌≡◌, ◌≤◌, ◌⊎◌, inl, inr, Bool, true, false, List, [], ◌∷◌, length, Option, Some, None}
 use Rattle.std.proofs.Common.{codes, refl, sym, subst, ◌∙◌, arith}
 use Rattle.std.specs.Prelude.{ℕ, map, option_and_then}
@@ -12,46 +11,43 @@ use Rattle.kds_base.specs.NumberText.{number_of}
 use Rattle.kds_cli_words.specs.Apps.{kds_app}
 use Rattle.kds_cli_words.specs.Words.{drill_of, members_of, port_of, serve_of, task_of}
 use Rattle.kds_cli_words.specs.declared.task.Task.{Task}
-use Rattle.kds_cli_words.specs.Parsed.{task_told}
+use Rattle.kds_cli_words.specs.Parsed.{task_in}
 use Rattle.kds_cli_words.proofs.Seen.{IsValue, Seen, flag, value, text}
 
--- The description of the command `kds` is simple, and no argument has a rule about another argument.
 pub free : is_simple_and_free kds_app ≡ true
 unfolding clap_on_literals
 free = refl
 
--- The description of the command `kds` is simple.
 pub simple : is_simple kds_app ≡ true
 unfolding clap_on_literals
 simple = refl
 
--- The task `task` if a list of faults is empty, and otherwise None.
+-- The task, if there are no faults.
 abbrev pub read : Kinds → Option Task → Option Task
 read [] task = task
 read (k ∷ ks) task = None
 
--- The task that `clap` reads from words, or None if `clap` finds a fault in the words.
+-- The task that `clap` reads, if it finds no fault.
 abbrev pub read_of : List Text → Option Task
-read_of words = read (fault_of kds_app words) (task_told (subcommand_of kds_app words))
+read_of words = read (fault_of kds_app words) (task_in (subcommand_of kds_app words))
 
--- What `clap` reads from the words `words`, a task or None, is what the definitions give for these words (`task_of`).
+-- `clap` reads what `task_of` gives.
 abbrev pub Exact : List Text → Type 0
 Exact words = read_of words ≡ task_of words
 
 -- ---- Words that ask for no task
 
--- The texts `a` and `b` are different.
+-- Two different texts, by both tests of their bytes.
 abbrev pub Differ : Text → Text → Type 0
 Differ a b = (bytes_eq a b ≡ false) × (bytes_eq b a ≡ false)
 
--- Texts that aren't equal are different by the test of their bytes.
 pub differ : (a b : Text) → (a ≡ b → ⊥) → Differ a b
 differ a b other = (
   false_from_ne_true _ (λ same. other ((bytes_eq-Decides a b).0 same)),
   false_from_ne_true _ (λ same. other (sym ((bytes_eq-Decides b a).0 same))),
 )
 
--- The word `w` isn't the name of a subcommand.
+-- The word isn't a subcommand's name.
 pub record IsOther (w : Text) : Type 0 where
   pub replay : Differ w (codes "replay")
   pub answer : Differ w (codes "answer")
@@ -59,7 +55,6 @@ pub record IsOther (w : Text) : Type 0 where
   pub serve : Differ w (codes "serve")
   pub drill : Differ w (codes "drill")
 
--- If the first word isn't the name of a subcommand, the words ask for no task.
 pub nameless : (w : Text) (more : List Text) → IsOther w → None ≡ task_of (w ∷ more)
 nameless w [] o = rw (o.replay.0, o.answer.0, o.audit.0) refl
 nameless w (a ∷ []) o = rw o.replay.0 refl
@@ -67,7 +62,7 @@ nameless w (a ∷ b ∷ []) o = rw o.serve.0 refl
 nameless w (a ∷ b ∷ c ∷ []) o = rw o.drill.0 refl
 nameless w (a ∷ b ∷ c ∷ d ∷ more) o = refl
 
--- At least one of the words isn't a decimal number below 2^64.
+-- At least one word isn't a decimal number below 2^64.
 abbrev pub HasNoNumber : List Text → Type 0
 HasNoNumber [] = ⊥
 HasNoNumber (w ∷ words) = (number_of 64 w ≡ None) ⊎ HasNoNumber words
@@ -77,13 +72,11 @@ nothing None b = refl
 nothing (Some x) None = refl
 nothing (Some x) (Some y) = refl
 
--- If one of two words isn't a number, these words aren't arguments of `serve`.
 pub serves_nothing : (a b : Text) → HasNoNumber (a ∷ b ∷ []) → None ≡ serve_of a b
 serves_nothing a b (inl none) = rw none refl
 serves_nothing a b (inr (inl none)) = rw none (nothing (port_of a) None)
 serves_nothing a b (inr (inr never)) = absurd never
 
--- If one of three words isn't a number, these words aren't arguments of `drill`.
 pub drills_nothing : (a b c : Text) → HasNoNumber (a ∷ b ∷ c ∷ []) → None ≡ drill_of a b c
 drills_nothing a b c (inl none) = rw none refl
 drills_nothing a b c (inr (inl none)) = rw none (nothing (number_of 64 a) None)
@@ -105,8 +98,6 @@ replay_words (value a i ∷ b ∷ []) few = rw (i.not_end, i.not_long, i.not_sho
 replay_words (value a i ∷ b ∷ c ∷ []) few = rw (i.not_end, i.not_long, i.not_short) refl
 replay_words (a ∷ b ∷ c ∷ d ∷ more) few = absurd (omega arith)
 
--- `Exact` holds for the subcommands `answer` and `audit` with at most three further words. These subcommands take no
--- arguments.
 bare_words : (more : List Seen) → length more ≤ 3 → Exact (codes "answer" ∷ map text more)
     × Exact (codes "audit" ∷ map text more)
 unfolding clap_on_literals
@@ -167,20 +158,18 @@ drill_words (a ∷ b ∷ c ∷ d ∷ more) few = absurd (omega arith)
 
 -- ---- All words
 
--- If the first word is neither a flag nor the name of a subcommand, `Exact` holds, whatever words follow.
 other_words : (w : Text) (more : List Text) → IsValue w → IsOther w → Exact (w ∷ more)
 unfolding clap_on_literals
 other_words w more i o =
     rw (o.replay.1, o.answer.1, o.audit.1, o.serve.1, o.drill.1, i.not_end, i.not_long, i.not_short) (nameless w more o)
 
 named : (name w : Text) (more : List Text) → Exact (name ∷ more) → (Differ w name → Exact (w ∷ more)) → Exact (w ∷ more)
-named name w more this other = by (bytes_eq w name) refl
+named name w more this other = cases (bytes_eq w name) refl
   where
-    by : (b : Bool) → bytes_eq w name ≡ b → Exact (w ∷ more)
-    by true is = subst (λ x. Exact (x ∷ more)) (sym ((bytes_eq-Decides w name).0 is)) this
-    by false is = other (differ w name (λ same. true≢false (sym ((bytes_eq-Decides w name).1 same) ∙ is)))
+    cases : (b : Bool) → bytes_eq w name ≡ b → Exact (w ∷ more)
+    cases true is = subst (λ x. Exact (x ∷ more)) (sym ((bytes_eq-Decides w name).0 is)) this
+    cases false is = other (differ w name (λ same. true≢false (sym ((bytes_eq-Decides w name).1 same) ∙ is)))
 
--- `Exact` holds for at most four words, each of which `clap` may be given.
 pub exact : (words : List Seen) → length words ≤ 4 → Exact (map text words)
 unfolding clap_on_literals
 exact [] few = refl

@@ -1,4 +1,4 @@
--- The task that the code reads from the result of a parse by `clap` is the one of the definitions.
+-- The code reads from a parse by `clap` the task that the definitions give.
 use Rattle.std.proofs.Common.{◌≡◌, ◌≤◌, ◌⊎◌, ⊎_elim, true, List, [], ◌∷◌, length, Option, Some, None, sym, ap, subst}
 use Rattle.std.proofs.Common.{◌∙◌, refl, arith}
 use Rattle.std.specs.Prelude.{String, string_bytes}
@@ -20,20 +20,19 @@ use Rattle.clap.proofs.WalkLemmas.{first_value-rows}
 use Rattle.kds_cli_words.specs.Apps.{kds_app}
 use Rattle.kds_cli_words.specs.Words.{task_of, texts_of}
 use Rattle.kds_cli_words.specs.declared.task.Task.{Task}
-use Rattle.kds_cli_words.specs.Parsed.{is_word, task_told, told_with}
+use Rattle.kds_cli_words.specs.Parsed.{is_word, task_in, told_with}
 use Rattle.kds_cli_words.proofs.Exact.{Exact, exact, read}
 use Rattle.kds_cli_words.proofs.Seen.{seen}
 
 -- ---- The name and the values in the result of a parse
 
--- If two functions give the same value for each argument, they give the same task.
 same_values : (name : Text) (get look : Text → Option Text) → ((id : Text) → get id ≡ look id)
     → told_with name get ≡ told_with name look
 same_values name get look same = λ i. told_with name (λ id. same id i)
 
 met_by : (o : Option (Text × List Row)) (name : Text) (rows : List Row) → Some name ≡ option_map (λ p. p.0) o
     → Some rows ≡ option_map (λ p. p.1) o
-    → told_with name (λ id. first_of id rows) ≡ task_told o
+    → told_with name (λ id. first_of id rows) ≡ task_in o
 met_by None name rows h g = absurd cc
 met_by (Some p) name rows h g =
     let n : name ≡ p.0 = cc (h) in
@@ -50,11 +49,9 @@ name_met m =
     twice (λ b. ((out-SubCommand (box_value b)).name.now, rows_of (found_of (out-SubCommand (box_value b)).matches)))
     (λ p. p.0) (out-ArgMatches m).subcommand
 
--- The task that is read with the name of the subcommand and the first value of each argument is the one that the result
--- of the parse asks for (`task_told`).
 pub told_read : (m : ArgMatches) (name : Text) (f : Found) → Some name ≡ subcommand_name_of m
     → Some (rows_of f) ≡ option_map (λ p. p.1) (subcommand_rows (out-ArgMatches m).subcommand)
-    → told_with name (first_value f) ≡ task_told (subcommand_rows_of m)
+    → told_with name (first_value f) ≡ task_in (subcommand_rows_of m)
 told_read m name f h g =
     same_values name (first_value f) (λ id. first_of id (rows_of f)) (first_value-rows f)
     ∙ met_by (subcommand_rows_of m) name (rows_of f) (h ∙ name_met m) g
@@ -68,28 +65,25 @@ exactly words are few =
     let n = s.1 in
     subst Exact s.2 (exact s.0 (omega arith))
 
--- There are at most four words, each of which `clap` may be given. If `clap` finds no fault in these words, the task of
--- the parse is the one of the definitions (`task_of`).
 pub read_words : (words : List (String Global)) → list_all (λ w. is_word (string_bytes w)) words ≡ true
     → length words ≤ 4
-    → fault_of kds_app (texts_of words) ≡ [] → task_told (subcommand_of kds_app (texts_of words))
+    → fault_of kds_app (texts_of words) ≡ [] → task_in (subcommand_of kds_app (texts_of words))
     ≡ task_of (texts_of words)
-read_words words are few fine = sym (ap (λ kinds. read kinds (task_told (subcommand_of kds_app (texts_of words)))) fine)
+read_words words are few fine = sym (ap (λ kinds. read kinds (task_in (subcommand_of kds_app (texts_of words)))) fine)
     ∙ exactly words are few
 
--- Assume that there are at most four words, each of which `clap` may be given. If `clap` returns an error that is one
--- of the faults of the words, and not that memory ran out, the words ask for no task.
+-- Unless memory ran out, an error of `clap` means that the words ask for no task.
 pub refused : (words : List (String Global)) (kinds : Kinds) (k found : ErrorKind)
     → list_all (λ w. is_word (string_bytes w)) words ≡ true → length words ≤ 4
     → kinds ≡ fault_of kds_app (texts_of words) → k ≡ found → (k ≡ kind.OutOfMemory → ⊥) → (found ≡ kind.OutOfMemory)
     ⊎ IsAmong found kinds
     → None ≡ task_of (texts_of words)
 refused words kinds k found are few same is other failed =
-    by kinds (task_told (subcommand_of kds_app (texts_of words)))
-    (ap (λ ks. read ks (task_told (subcommand_of kds_app (texts_of words)))) same ∙ exactly words are few) failed
+    cases kinds (task_in (subcommand_of kds_app (texts_of words)))
+    (ap (λ ks. read ks (task_in (subcommand_of kds_app (texts_of words)))) same ∙ exactly words are few) failed
   where
-    by : (ks : Kinds) (task : Option Task) → read ks task ≡ task_of (texts_of words) → (found ≡ kind.OutOfMemory)
+    cases : (ks : Kinds) (task : Option Task) → read ks task ≡ task_of (texts_of words) → (found ≡ kind.OutOfMemory)
         ⊎ IsAmong found ks
         → None ≡ task_of (texts_of words)
-    by [] task e failed = absurd (⊎_elim (λ memory. other (is ∙ memory)) (λ none. none) failed)
-    by (x ∷ ks) task e failed = e
+    cases [] task e failed = absurd (⊎_elim (λ memory. other (is ∙ memory)) (λ none. none) failed)
+    cases (x ∷ ks) task e failed = e

@@ -1,4 +1,4 @@
--- Each word that `clap` may be given is the flag `--journal`, or it isn't a flag.
+-- Each word that `clap` may be given is `--journal` or no flag.
 use Rattle.std.proofs.Common.{◌≡◌, suc, Bool, true, false, List, [], ◌∷◌, length, Some, None, codes, refl, sym, ap, ap₂}
 use Rattle.std.specs.Prelude.{◌&&◌, ◌||◌, not, map, String, string_bytes, if◌then◌else◌, option_and_then}
 use Rattle.std.specs.declared.alloc.Global.{Global}
@@ -11,14 +11,14 @@ use Rattle.kds_base.proofs.Facts.{both_left, both_right}
 use Rattle.kds_cli_words.specs.Words.{texts_of}
 use Rattle.kds_cli_words.specs.Parsed.{has_hyphen, is_word}
 
--- For `clap`, the word `w` isn't a flag: `w` isn't `--journal`, isn't `--`, and is neither a long flag nor short flags.
+-- For `clap`, the word is a value: not `--journal`, not `--`, and neither a long flag nor short flags.
 pub record IsValue (w : Text) : Type 0 where
   pub not_journal : bytes_eq w (codes "--journal") ≡ false
   pub not_end : bytes_eq w (45 ∷ 45 ∷ []) ≡ false
   pub not_long : long_of w ≡ None
   pub not_short : short_of w ≡ None
 
--- A word that `clap` may be given: the flag `--journal`, or a word that isn't a flag.
+-- A word that `clap` may be given: `--journal`, or a value.
 pub data Seen : Type 0 where
   flag : Seen
   value : (w : Text) → IsValue w → Seen
@@ -43,7 +43,6 @@ seen_word w true d is has h = (flag, sym ((bytes_eq-Decides w (codes "--journal"
 seen_word w false true is has h = absurd cc
 seen_word w false false is has h = (value w (is_value w is has), refl)
 
--- If each of the words passes the test `is_word`, they are the texts of words that `clap` may be given.
 pub seen : (words : List (String Global)) → list_all (λ w. is_word (string_bytes w)) words ≡ true
     → (seens : List Seen) × (length seens ≡ length words) × (map text seens ≡ texts_of words)
 seen [] h = ([], refl, refl)

@@ -1,4 +1,4 @@
--- Words that `clap` isn't given ask for no task: one of them fails the test `is_word`, or there are more than four.
+-- Words that `clap` isn't given, for a hyphen or as more than four, ask for no task.
 use Rattle.std.proofs.Common.{◌≡◌, ◌<◌, inl, inr, ⊎_elim, Bool, true, false, List, [], ◌∷◌, length, Option, Some, None}
 use Rattle.std.proofs.Common.{codes, refl, sym, ap, subst, ◌∙◌, arith}
 use Rattle.std.specs.Prelude.{◌==◌, ◌^◌, ◌&&◌, ◌||◌, not, nat_lt, String, string_bytes, if◌then◌else◌}
@@ -79,12 +79,10 @@ all_texts : (words : List (String Global)) → list_all (λ w. is_word (string_b
 all_texts [] = refl
 all_texts (w ∷ words) = ap (λ b. is_word (string_bytes w) && b) (all_texts words)
 
--- If one of the words fails the test `is_word`, the words ask for no task.
 pub unseen : (words : List (String Global)) → list_all (λ w. is_word (string_bytes w)) words ≡ false
     → None ≡ task_of (texts_of words)
 unseen words bad = no_task (texts_of words) (sym (all_texts words) ∙ bad)
 
--- More than four words ask for no task.
 pub too_many : (words : List (String Global)) → 4 < length words → None ≡ task_of (texts_of words)
 too_many [] h = absurd (omega arith)
 too_many (a ∷ []) h = absurd (omega arith)

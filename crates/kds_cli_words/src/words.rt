@@ -3,7 +3,7 @@ ghost use Rattle.std.specs.Prelude.{◌≡◌, ◌≤◌, true, IfOk, IfSome, le
 ghost use Rattle.std.specs.List.{list_all};
 ghost use Rattle.clap.specs.Words.{first_value, found_of, subcommand_rows_of};
 ghost use Rattle.kds_cli_words.specs.Words.{IsWithin, task_of, texts_of};
-ghost use Rattle.kds_cli_words.specs.Parsed.{has_hyphen, is_word, task_told, told_with};
+ghost use Rattle.kds_cli_words.specs.Parsed.{has_hyphen, is_word, task_in, told_with};
 
 use crate::command::kds_command;
 use crate::numbers::{drill_task, serve_task};
@@ -64,8 +64,8 @@ fn told_with(name: &str, found: &ArgMatches) -> Option<Task>
 }
 
 /// Reads the task from the result of a parse by `clap`. Returns `None` if this result has no valid task.
-fn task_told(matches: &ArgMatches) -> Option<Task>
-    ensures task { result ≡ task_told (subcommand_rows_of matches.now) }
+fn task_in(matches: &ArgMatches) -> Option<Task>
+    ensures task { result ≡ task_in (subcommand_rows_of matches.now) }
     ensures within { IfSome result IsWithin }
 {
     let (name, found) = matches.subcommand()?;
@@ -82,7 +82,7 @@ fn parse_task(alloc: Global, words: &Vec<String>) -> Result<Option<Task>, Memory
 {
     let command = kds_command(alloc)?;
     match command.try_get_matches_from(words.as_slice()) {
-        Ok(matches) => Ok(task_told(&matches)),
+        Ok(matches) => Ok(task_in(&matches)),
         Err(error) => match error.kind() {
             ErrorKind::OutOfMemory => Err(Memory),
             _ => Ok(None),

@@ -1,5 +1,4 @@
--- A line about another stream or about a lease doesn't change what a journal says of a stream, and a line about a
--- stream doesn't change the rows and tenures. In this file, `what` is the entry of the new line.
+-- A line about another stream or a lease changes nothing of a stream; a line about a stream no row or tenure.
 use Rattle.std.proofs.Common.{◌≡◌, ◌≢◌, ℕ, ◌+◌, ◌*◌, ◌≤◌, max, Bool, true, false, List, [], ◌∷◌, Option, Some, None}
 use Rattle.std.proofs.Common.{refl, sym, ap, ◌∙◌, arith}
 use Rattle.std.specs.Prelude.{◌==◌, is_some, if◌then◌else◌}
@@ -23,20 +22,16 @@ use Rattle.kds_defs.specs.Subjects.{IsFresh, stream_of}
 
 -- ---- Entries that aren't about a stream
 
--- If an entry is about no stream, it isn't about stream `s`.
-pub of_no_stream : (what : Entry) (s : ℕ) → stream_of what ≡ None → stream_of what ≢ Some s
-of_no_stream what s none = λ h. none-some s (sym none ∙ h)
+pub of_no_stream : (change : Entry) (s : ℕ) → stream_of change ≡ None → stream_of change ≢ Some s
+of_no_stream change s none = λ h. none-some s (sym none ∙ h)
 
--- If an entry is about stream `s`, it isn't about another stream `m`.
-pub of_other : (what : Entry) (s m : ℕ) → stream_of what ≡ Some s → s ≢ m → stream_of what ≢ Some m
-of_other what s m is apart = λ h. apart (same_Some s m (sym is ∙ h))
+pub of_other : (change : Entry) (s m : ℕ) → stream_of change ≡ Some s → s ≢ m → stream_of change ≢ Some m
+of_other change s m is apart = λ h. apart (same_Some s m (sym is ∙ h))
 
--- If an optional number has a value, it isn't `None`.
 pub of_some : (o : Option ℕ) → is_some o ≡ true → o ≢ None
 of_some None h = absurd cc
 of_some (Some s) h = λ e. cc
 
--- If an optional number has no value, it is `None`.
 pub of_none : (o : Option ℕ) → is_some o ≡ false → o ≡ None
 of_none None h = refl
 of_none (Some s) h = absurd cc
@@ -46,75 +41,63 @@ of_none (Some s) h = absurd cc
 differ : (a s : ℕ) → Some a ≢ Some s → (a == s) ≡ false
 differ a s h = ne_eqb a s (λ e. h (ap Some e))
 
--- An entry that isn't about stream `s` doesn't change whether `s` is live.
-pub live_same : (what : Entry) (s : ℕ) (before : Bool) → stream_of what ≢ Some s → is_live_after what s before ≡ before
-live_same (entry.Made a name count) s before h = rw (differ a s h) refl
-live_same (entry.Gone a) s before h = rw (differ a s h) refl
-live_same _ s before h = refl
+pub live_same : (change : Entry) (s : ℕ) (old : Bool) → stream_of change ≢ Some s → is_live_after change s old ≡ old
+live_same (entry.Made a name count) s old h = rw (differ a s h) refl
+live_same (entry.Gone a) s old h = rw (differ a s h) refl
+live_same _ s old h = refl
 
--- An entry that isn't about stream `s` doesn't change whether `s` was made.
-pub made_same : (what : Entry) (s : ℕ) (before : Bool) → stream_of what ≢ Some s → was_made_after what s before ≡ before
-made_same (entry.Made a name count) s before h = rw (differ a s h) refl
-made_same _ s before h = refl
+pub made_same : (change : Entry) (s : ℕ) (old : Bool) → stream_of change ≢ Some s → was_made_after change s old ≡ old
+made_same (entry.Made a name count) s old h = rw (differ a s h) refl
+made_same _ s old h = refl
 
--- An entry that isn't about stream `s` doesn't change the name of `s`.
-pub name_same : (what : Entry) (s : ℕ) (before : List ℕ) → stream_of what ≢ Some s
-    → name_of_after what s before ≡ before
-name_same (entry.Made a name count) s before h = rw (differ a s h) refl
-name_same _ s before h = refl
+pub name_same : (change : Entry) (s : ℕ) (old : List ℕ) → stream_of change ≢ Some s
+    → name_of_after change s old ≡ old
+name_same (entry.Made a name count) s old h = rw (differ a s h) refl
+name_same _ s old h = refl
 
--- An entry that isn't about stream `s` doesn't change the time at which `s` was made.
-pub made_at_same : (line : Line) (what : Entry) (s before : ℕ) → stream_of what ≢ Some s
-    → made_at_after line what s before ≡ before
-made_at_same line (entry.Made a name count) s before h = rw (differ a s h) refl
-made_at_same line _ s before h = refl
+pub made_at_same : (line : Line) (change : Entry) (s old : ℕ) → stream_of change ≢ Some s
+    → made_at_after line change s old ≡ old
+made_at_same line (entry.Made a name count) s old h = rw (differ a s h) refl
+made_at_same line _ s old h = refl
 
--- An entry that isn't about stream `s` doesn't change the retention of `s`.
-pub hours_same : (what : Entry) (s before : ℕ) → stream_of what ≢ Some s → hours_after what s before ≡ before
-hours_same (entry.Made a name count) s before h = rw (differ a s h) refl
-hours_same (entry.Kept a wanted) s before h = rw (differ a s h) refl
-hours_same _ s before h = refl
+pub hours_same : (change : Entry) (s old : ℕ) → stream_of change ≢ Some s → hours_after change s old ≡ old
+hours_same (entry.Made a name count) s old h = rw (differ a s h) refl
+hours_same (entry.Kept a wanted) s old h = rw (differ a s h) refl
+hours_same _ s old h = refl
 
--- An entry that isn't about stream `s` takes no sequence number of `s`.
-pub none_drawn : (what : Entry) (s : ℕ) → stream_of what ≢ Some s → draws what s ≡ 0
+pub none_drawn : (change : Entry) (s : ℕ) → stream_of change ≢ Some s → draws change s ≡ 0
 none_drawn (entry.Put a sh number hash bytes key_bytes) s h = rw (differ a s h) refl
-none_drawn (entry.Split a sh at number low high) s h = rw (differ a s h) refl
+none_drawn (entry.Split a sh key_hash number low high) s h = rw (differ a s h) refl
 none_drawn (entry.Merged a sh other number child) s h = rw (differ a s h) refl
 none_drawn _ s h = refl
 
--- An entry that isn't about stream `s` doesn't change the next sequence number of `s`.
-pub next_same : (what : Entry) (s next : ℕ) → stream_of what ≢ Some s → draws what s + next ≡ next
-next_same what s next h = let none = none_drawn what s h in omega (arith)
+pub next_same : (change : Entry) (s next : ℕ) → stream_of change ≢ Some s → draws change s + next ≡ next
+next_same change s next h = let none = none_drawn change s h in omega (arith)
 
--- An entry that isn't about stream `s` doesn't change the shards of `s`.
-pub shards_same : (line : Line) (what : Entry) (s start : ℕ) (before : List ShardState) → stream_of what ≢ Some s
-    → shards_after line what s start before ≡ before
-shards_same line (entry.Made a name count) s start before h = rw (differ a s h) refl
-shards_same line (entry.Split a sh at number low high) s start before h = rw (differ a s h) refl
-shards_same line (entry.Merged a sh other number child) s start before h = rw (differ a s h) refl
-shards_same line _ s start before h = refl
+pub shards_same : (line : Line) (change : Entry) (s start : ℕ) (old : List ShardState) → stream_of change ≢ Some s
+    → shards_after line change s start old ≡ old
+shards_same line (entry.Made a name count) s start old h = rw (differ a s h) refl
+shards_same line (entry.Split a sh hash number low high) s start old h = rw (differ a s h) refl
+shards_same line (entry.Merged a sh other number child) s start old h = rw (differ a s h) refl
+shards_same line _ s start old h = refl
 
--- An entry that isn't about stream `s` doesn't change the records of a shard of `s`.
-pub records_same : (line : Line) (what : Entry) (s sh : ℕ) (before : List Logged) → stream_of what ≢ Some s
-    → records_after line what s sh before ≡ before
-records_same line (entry.Put a shard number hash bytes key_bytes) s sh before h = rw (differ a s h) refl
-records_same line _ s sh before h = refl
+-- An entry about another stream or a lease leaves a shard's records as they are.
+pub records_same : (line : Line) (change : Entry) (s sh : ℕ) (old : List Logged) → stream_of change ≢ Some s
+    → records_after line change s sh old ≡ old
+records_same line (entry.Put a shard number hash bytes key_bytes) s sh old h = rw (differ a s h) refl
+records_same line _ s sh old h = refl
 
--- An entry that isn't about stream `s` doesn't change the puts of a shard of `s`.
-pub puts_same : (line : Line) (what : Entry) (s sh : ℕ) (before : List SizedPut) → stream_of what ≢ Some s
-    → puts_after line what s sh before ≡ before
-puts_same line (entry.Put a shard number hash bytes key_bytes) s sh before h = rw (differ a s h) refl
-puts_same line _ s sh before h = refl
+pub puts_same : (line : Line) (change : Entry) (s sh : ℕ) (old : List SizedPut) → stream_of change ≢ Some s
+    → puts_after line change s sh old ≡ old
+puts_same line (entry.Put a shard number hash bytes key_bytes) s sh old h = rw (differ a s h) refl
+puts_same line _ s sh old h = refl
 
--- An entry that isn't about stream `s` doesn't change whether the limits of `s` are on.
-pub enforced_same : (what : Entry) (s : ℕ) (before : Bool) → stream_of what ≢ Some s
-    → enforced_after what s before ≡ before
-enforced_same (entry.Enforced a on) s before h = rw (differ a s h) refl
-enforced_same _ s before h = refl
+pub enforced_same : (change : Entry) (s : ℕ) (old : Bool) → stream_of change ≢ Some s
+    → enforced_after change s old ≡ old
+enforced_same (entry.Enforced a is_on) s old h = rw (differ a s h) refl
+enforced_same _ s old h = refl
 
--- The journals `log` and `log'` say the same of stream `s`: whether it is live and was made, its name, its time of
--- making and its retention. They also agree on the next sequence number of `s`, the shards of `s` with their records
--- and puts, and whether the limits of `s` are on. They may differ in the trim floor of `s`.
+-- Two journals say the same of stream `s`, perhaps except for its trim floor.
 pub record SameStream (log log' : Journal) (s : ℕ) : Type 0 where
   pub live : is_live log s ≡ is_live log' s
   pub was : was_made log s ≡ was_made log' s
@@ -127,7 +110,6 @@ pub record SameStream (log log' : Journal) (s : ℕ) : Type 0 where
   pub puts_are : (sh : ℕ) → puts log s sh ≡ puts log' s sh
   pub enforced_is : is_enforced log s ≡ is_enforced log' s
 
--- A line that isn't about stream `s` doesn't change what the journal `log` says of `s` (`SameStream`).
 pub same_stream : (log : Journal) (line : Line) (s : ℕ) → stream_of line.what ≢ Some s → SameStream (line ∷ log) log s
 same_stream log line s h = record {
   live = live_same line.what s (is_live log s) h;
@@ -142,7 +124,6 @@ same_stream log line s h = record {
   enforced_is = enforced_same line.what s (is_enforced log s) h;
 }
 
--- A journal says the same of a stream as itself (`SameStream`).
 pub same_again : (log : Journal) (s : ℕ) → SameStream log log s
 same_again log s = record {
   live = refl;
@@ -157,8 +138,6 @@ same_again log s = record {
   enforced_is = refl;
 }
 
--- If the journals `log` and `log'` say the same of stream `s`, and `log'` and `log''` do too, then `log` and `log''` do
--- (`SameStream`).
 pub same_along : (log log' log'' : Journal) (s : ℕ) → SameStream log log' s → SameStream log' log'' s
     → SameStream log log'' s
 same_along log log' log'' s a b = record {
@@ -174,20 +153,16 @@ same_along log log' log'' s a b = record {
   enforced_is = a.enforced_is ∙ b.enforced_is;
 }
 
--- An entry about a lease doesn't change the number of streams that were made.
-pub count_same : (what : Entry) (n : ℕ) → stream_of what ≡ None → made_count_after what n ≡ n
+pub count_same : (change : Entry) (n : ℕ) → stream_of change ≡ None → made_count_after change n ≡ n
 count_same (entry.Made s name count) n h = absurd cc
 count_same _ n h = refl
 
 -- ---- The trim floor of a stream after a line that doesn't change the retention
 
--- The trim floor of a stream at the clock `c`, after a line at the clock `d`. `made` says whether the stream was made
--- by this line or earlier, and `before` whether it was made earlier. The stream's retention is `hours` after the line
--- and `hours_before` before the line, and the earlier lines give the floor `low`.
 floor_by : Bool → Bool → ℕ → ℕ → ℕ → ℕ → ℕ → ℕ
-floor_by made before c d hours hours_before low =
+floor_by made old c d hours hours_before low =
     let now = floor_at d (hours * HOUR) in
-    let earlier = if before then floor_at d (hours_before * HOUR) else 0 in
+    let earlier = if old then floor_at d (hours_before * HOUR) else 0 in
     max (floor_at c (hours * HOUR)) (max (if made then max now earlier else 0) low)
 
 floor_is : (log : Journal) (line : Line) (s c : ℕ)
@@ -197,15 +172,14 @@ floor_is : (log : Journal) (line : Line) (s c : ℕ)
 unfolding floor_by
 floor_is log line s c = refl
 
-no_higher : (made before : Bool) (c d h low : ℕ) → d ≤ c
-    → floor_by made before c d h h low ≡ max (floor_at c (h * HOUR)) low
+no_higher : (made old : Bool) (c d h low : ℕ) → d ≤ c
+    → floor_by made old c d h h low ≡ max (floor_at c (h * HOUR)) low
 unfolding floor_by
 no_higher true true c d h low later = omega (arith)
 no_higher true false c d h low later = omega (arith)
-no_higher false before c d h low later = omega arith
+no_higher false old c d h low later = omega arith
 
--- If a line doesn't change the retention of stream `s`, it doesn't change the trim floor of `s` at the line's clock or
--- at a later clock `c`.
+-- Only a change of the retention moves the trim floor of a later clock.
 pub floor_same : (log : Journal) (line : Line) (s c : ℕ) → line.clock ≤ c → hours (line ∷ log) s ≡ hours log s
     → trim_floor (line ∷ log) c s ≡ trim_floor log c s
 floor_same log line s c later same =
@@ -216,7 +190,6 @@ floor_same log line s c later same =
 
 -- ---- A stream that no line is about
 
--- Each stream is new to the empty journal (`IsFresh`).
 pub fresh_empty : (s : ℕ) → IsFresh [] s
 fresh_empty s = record {
   gone = refl;
@@ -232,7 +205,6 @@ fresh_empty s = record {
 no_floor_by : (log : Journal) (line : Line) (s : ℕ) → was_made (line ∷ log) s ≡ false → floor_after log line s ≡ 0
 no_floor_by log line s h = cond-false (was_made (line ∷ log) s) _ 0 h
 
--- If stream `s` is new to a journal (`IsFresh`), it still is after a line that isn't about `s`.
 pub fresh_other : (log : Journal) (line : Line) (s : ℕ) → IsFresh log s → stream_of line.what ≢ Some s
     → IsFresh (line ∷ log) s
 fresh_other log line s fresh other =
@@ -251,35 +223,31 @@ fresh_other log line s fresh other =
 
 -- ---- Rows and tenures after an entry about a stream
 
--- An entry about a stream doesn't change the row of a key.
-pub row_same : (log : Journal) (line : Line) (what : Entry) (key : ShardRef) (before : Option Row)
-    → stream_of what ≢ None
-    → row_after log line what key before ≡ before
-row_same log line (entry.LeaseMade k from) key before h = absurd (h refl)
-row_same log line (entry.LeaseCut k counter) key before h = absurd (h refl)
-row_same log line (entry.Taken k t counter owner) key before h = absurd (h refl)
-row_same log line (entry.Renewed t counter) key before h = absurd (h refl)
-row_same log line (entry.Freed t counter) key before h = absurd (h refl)
-row_same log line (entry.Marked t counter to) key before h = absurd (h refl)
-row_same log line _ key before h = refl
+pub row_same : (log : Journal) (line : Line) (change : Entry) (key : ShardRef) (old : Option Row)
+    → stream_of change ≢ None
+    → row_after log line change key old ≡ old
+row_same log line (entry.LeaseMade k origin) key old h = absurd (h refl)
+row_same log line (entry.LeaseCut k counter) key old h = absurd (h refl)
+row_same log line (entry.Taken k t counter owner) key old h = absurd (h refl)
+row_same log line (entry.Renewed t counter) key old h = absurd (h refl)
+row_same log line (entry.Freed t counter) key old h = absurd (h refl)
+row_same log line (entry.Marked t counter target) key old h = absurd (h refl)
+row_same log line _ key old h = refl
 
--- An entry about a stream doesn't change which keys have a row.
-pub keys_same : (what : Entry) (before : List ShardRef) → stream_of what ≢ None → row_keys_after what before ≡ before
-keys_same (entry.LeaseMade key from) before h = absurd (h refl)
-keys_same (entry.LeaseCut key counter) before h = absurd (h refl)
-keys_same _ before h = refl
+pub keys_same : (change : Entry) (old : List ShardRef) → stream_of change ≢ None → row_keys_after change old ≡ old
+keys_same (entry.LeaseMade key origin) old h = absurd (h refl)
+keys_same (entry.LeaseCut key counter) old h = absurd (h refl)
+keys_same _ old h = refl
 
--- An entry about a stream doesn't change the number of tenures that have begun.
-pub taken_same : (what : Entry) (before : ℕ) → stream_of what ≢ None → taken_count_after what before ≡ before
-taken_same (entry.Taken key t counter owner) before h = absurd (h refl)
-taken_same _ before h = refl
+pub taken_same : (change : Entry) (old : ℕ) → stream_of change ≢ None → taken_count_after change old ≡ old
+taken_same (entry.Taken key t counter owner) old h = absurd (h refl)
+taken_same _ old h = refl
 
--- An entry about a stream doesn't change a tenure.
-pub tenure_same : (log : Journal) (line : Line) (what : Entry) (t : ℕ) (before : Option TenureState)
-    → stream_of what ≢ None
-    → tenure_after log line what t before ≡ before
-tenure_same log line (entry.Taken key u counter owner) t before h = absurd (h refl)
-tenure_same log line (entry.Opened u) t before h = absurd (h refl)
-tenure_same log line (entry.Read u limit ended numbers) t before h = absurd (h refl)
-tenure_same log line (entry.Given u) t before h = absurd (h refl)
-tenure_same log line _ t before h = refl
+pub tenure_same : (log : Journal) (line : Line) (change : Entry) (t : ℕ) (old : Option TenureState)
+    → stream_of change ≢ None
+    → tenure_after log line change t old ≡ old
+tenure_same log line (entry.Taken key u counter owner) t old h = absurd (h refl)
+tenure_same log line (entry.Opened u) t old h = absurd (h refl)
+tenure_same log line (entry.Read u limit ended numbers) t old h = absurd (h refl)
+tenure_same log line (entry.Given u) t old h = absurd (h refl)
+tenure_same log line _ t old h = refl

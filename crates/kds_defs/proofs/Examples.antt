@@ -1,5 +1,4 @@
--- Worked examples, computed from the definitions. Most of them state the answers to a list of turns after an empty
--- history.
+-- Worked examples, mostly the answers to a list of turns after an empty history.
 use Rattle.std.specs.Prelude.{ℕ, ◌≡◌, true, false, List, [], ◌∷◌, Some, None, Ok, Err}
 use Rattle.std.proofs.Common.{refl}
 use Rattle.kds_defs.specs.declared.command.Command.{Command}
@@ -19,7 +18,7 @@ use Rattle.kds_defs.specs.Decision.{refuse◌if◌else◌, with◌or◌then◌}
 use Rattle.kds_defs.specs.Histories.{answers}
 
 turn : ℕ → Command → Turn
-turn at what = record { by = 0; at = at; what = what }
+turn moment asked = record { by = 0; at = moment; what = asked }
 
 name : List ℕ
 name = 115 ∷ []
@@ -30,8 +29,6 @@ other = 116 ∷ []
 item : NewItem
 item = record { key = 97 ∷ []; hash = 0x0cc175b9c0f1b6a831c399e269772661; payload = 104 ∷ 105 ∷ [] }
 
--- Records are put into two streams, whose sequence numbers are separate. A second stream with the same name and a put
--- into a stream that doesn't exist are refused. A turn with an earlier time than the turns before it is answered too.
 first_path : answers [] (
     turn 1000 (command.Create name 1)
     ∷ turn 1000 (command.Put name item)
@@ -50,12 +47,10 @@ first_path : answers [] (
 unfolding refuse◌if◌else◌ with◌or◌then◌ turn name other item
 first_path = refl
 
--- A record with the key and the payload of `item`, as a read returns it.
+-- The example's record as a read returns it.
 kept : ℕ → ℕ → Stored
 kept seq arrival = record { seq = seq; arrival = arrival; key = 97 ∷ []; payload = 104 ∷ 105 ∷ [] }
 
--- After a split at the key 2^127, a record goes to the child whose range contains the record's hash key. A range can't
--- be split at its first key, and a closed shard can't be split.
 split : answers [] (
     turn 4000 (command.Create name 1)
     ∷ turn 4000 (command.Split name 0 170141183460469231731687303715884105728)
@@ -67,7 +62,6 @@ split : answers [] (
 unfolding refuse◌if◌else◌ with◌or◌then◌ turn name
 split = refl
 
--- Two shards can be merged only if they are open and adjacent. Which of the two is named first doesn't matter.
 merge : answers [] (
     turn 4000 (command.Create name 3)
     ∷ turn 4000 (command.Merge name 0 2)
@@ -78,8 +72,6 @@ merge : answers [] (
 unfolding refuse◌if◌else◌ with◌or◌then◌ turn name
 merge = refl
 
--- A record is returned while its age is below the retention of 24 hours. After that the record is trimmed, and it stays
--- trimmed even for a turn with an earlier time.
 retention : answers [] (
     turn 1000 (command.Create name 1)
     ∷ turn 1000 (command.Put name item)
@@ -94,8 +86,6 @@ retention : answers [] (
 unfolding refuse◌if◌else◌ with◌or◌then◌ turn name item kept
 retention = refl
 
--- A read at the end of a closed shard returns the shard's children and no iterator. A listing of at most one shard
--- returns a token for the next page, which is too old after more than five minutes.
 ended : answers [] (
     turn 4000 (command.Create name 1)
     ∷ turn 4000 (command.Split name 0 170141183460469231731687303715884105728)
@@ -139,8 +129,6 @@ ended : answers [] (
 unfolding refuse◌if◌else◌ with◌or◌then◌ turn name
 ended = refl
 
--- Where iterators begin: at the trim horizon, at LATEST, at a sequence number, and after a sequence number. Sequence
--- numbers that are too great are refused. The last reply says that the reader is 999 milliseconds behind.
 starts : answers [] (
     turn 1000 (command.Create name 1)
     ∷ turn 1000 (command.Put name item)
@@ -164,8 +152,6 @@ starts : answers [] (
 unfolding refuse◌if◌else◌ with◌or◌then◌ turn name item kept
 starts = refl
 
--- Records are put together, and stream names are listed by pages. A deleted stream isn't found any more. A new stream
--- with the same name gets a new number, so that an iterator of the deleted stream is refused.
 service : answers [] (
     turn 1000 (command.Create name 2)
     ∷ turn 1000 (command.Create other 1)
@@ -198,8 +184,6 @@ service : answers [] (
 unfolding refuse◌if◌else◌ with◌or◌then◌ turn name other item
 service = refl
 
--- An iterator with a time as its start begins at the first record of that time or later. An increase can't lower the
--- retention, and a decrease can't raise it. A longer retention doesn't bring back a record that is already trimmed.
 kept_hours : answers [] (
     turn 1000 (command.Create name 1)
     ∷ turn 1000 (command.Put name item)
@@ -224,13 +208,9 @@ kept_hours = refl
 shard : ℕ → ShardRef
 shard n = record { stream = 1; shard = n }
 
--- The hash key 2^127, at which a split halves the range of all keys.
 half : ℕ
 half = 170141183460469231731687303715884105728
 
--- The row of a shard with two records is made with the origin LATEST, so that the row's tenure reads from the third
--- record on. After a split, the row of a child gets the trim horizon as its origin, because the floor of the parent's
--- row is before the parent's end.
 latest : answers [] (
     turn 1000 (command.Create name 1)
     ∷ turn 1000 (command.Put name item)
@@ -279,9 +259,6 @@ latest : answers [] (
 unfolding refuse◌if◌else◌ with◌or◌then◌ turn name item kept shard half
 latest = refl
 
--- The rows of a parent and of its child are made after a split, with the origin LATEST. The floor of the parent's row
--- is past the parent's end, so the child's row keeps the origin LATEST. The child can't be opened until the parent has
--- been read to its end and marked there.
 latest_split : answers [] (
     turn 1000 (command.Create name 1)
     ∷ turn 1000 (command.Split name 0 half)
@@ -310,9 +287,6 @@ latest_split : answers [] (
 unfolding refuse◌if◌else◌ with◌or◌then◌ turn name shard half
 latest_split = refl
 
--- The rows of two merged shards begin at the time 1500. The row of shard 0 begins at a record. Shard 1 has no records,
--- so its row begins past the end of this shard. The row of their child gets the trim horizon as its origin, because the
--- floor of the row of shard 0 is before the end of shard 0.
 from_moment : answers [] (
     turn 1000 (command.Create name 2)
     ∷ turn 1000 (command.Put name item)

@@ -1,5 +1,4 @@
--- The search for the home of a key (`home_among`) finds the number of an open shard whose range contains the key. This
--- number is also the shard's index if the shards are numbered from 0.
+-- The search for a key's home finds the number of an open shard whose range contains the key.
 use Rattle.std.proofs.Common.{◌≡◌, ℕ, suc, ◌+◌, ◌-◌, ◌<◌, ◌≤◌, Bool, true, false, List, [], ◌∷◌, Some, refl, sym, ap}
 use Rattle.std.proofs.Common.{subst, ◌∙◌, arith}
 use Rattle.std.specs.Prelude.{cond, slice_get, if◌then◌else◌}
@@ -9,8 +8,7 @@ use Rattle.kds_base.specs.Span.{Span, covers, Covers}
 use Rattle.kds_defs.specs.Shards.{ShardState, is_open, home_among}
 use Rattle.kds_defs.specs.Tiled.{AreNumbered, open_times, count_if}
 
--- The shard at the index `sh - n` of `xs` is open, and its range contains the key `k`. If the shards `xs` are numbered
--- from `n` on, this is the shard with the number `sh`.
+-- Shard `sh` of shards numbered from `n` on is open, and its range contains the key.
 pub record Found (xs : List ShardState) (n k sh : ℕ) : Type 0 where
   pub state : ShardState
   pub from : n ≤ sh
@@ -18,12 +16,9 @@ pub record Found (xs : List ShardState) (n k sh : ℕ) : Type 0 where
   pub is_open_now : is_open state ≡ true
   pub contains : Covers state.range k
 
--- If the test `covers` is true of the range `r` and the key `k`, then `r` contains `k` (`Covers`).
 pub covers_so : (r : Span) (k : ℕ) → covers r k ≡ true → Covers r k
 covers_so r k h = (grind (arith), grind (arith))
 
--- If the number `sh` is found in the list `xs`, numbered from `n + 1` on (`Found`), it is also found with the shard `x`
--- in front, numbered from `n` on.
 pub later : (x : ShardState) (xs : List ShardState) (n k sh : ℕ) → Found xs (n + 1) k sh → Found (x ∷ xs) n k sh
 later x xs n k sh f =
     let e : suc (sh - (n + 1)) ≡ sh - n = omega (arith) in
@@ -35,8 +30,6 @@ later x xs n k sh f =
       contains = f.contains;
     }
 
--- If the first shard `x` of a list is open and contains the key `k`, the number `sh` is found in a list that is
--- numbered from `sh` on (`n` is `sh`).
 pub here : (x : ShardState) (xs : List ShardState) (n k sh : ℕ) → sh ≡ n → is_open x ≡ true → Covers x.range k
     → Found (x ∷ xs) n k sh
 here x xs n k sh is open_now inside =
@@ -49,9 +42,6 @@ here x xs n k sh is open_now inside =
       contains = inside;
     }
 
--- Suppose that the search in `xs` finds a shard for `k` (`Found`) if some open shard of `xs` contains `k`. Then the
--- search in `x ∷ xs` finds one if some open shard of `x ∷ xs` contains `k`. `b` says whether the shard `x` is open, and
--- `d` whether its range contains `k`.
 pub found_home : (b d : Bool) (x : ShardState) (xs : List ShardState) (n k : ℕ) → is_open x ≡ b → covers x.range k ≡ d
     → x.no ≡ n → 0 < count_if b (if d then 1 else 0) + open_times xs k
     → (0 < open_times xs k → Found xs (n + 1) k (home_among (filter is_open xs) k))
@@ -66,8 +56,7 @@ found_home true false x xs n k isb isd is some rest =
     ap (λ b. if b then x.no else home_among (filter is_open xs) k) isd in
     subst (λ sh. Found (x ∷ xs) n k sh) (sym e) (later x xs n k _ (rest (omega (arith))))
 
--- If some open shard of `xs` contains the key `k`, the search finds such a shard. The shards `xs` are numbered from `n`
--- on.
+-- The search finds a home if there is one.
 pub home_found : (xs : List ShardState) (n k : ℕ) → AreNumbered n xs → 0 < open_times xs k
     → Found xs n k (home_among (filter is_open xs) k)
 home_found [] n k numbers some = absurd (omega arith)

@@ -1,6 +1,4 @@
--- How to show that a statement `P` is true of the lines and the answer of a decision: one test of the decision after
--- another (`Leads`). In the decision `refuse r if b else d`, `b` is the test. In `with o or r then d`, the test is
--- whether `o` has a value.
+-- How to show a statement of a decision's lines and answer, one test of the decision after another.
 use Rattle.std.proofs.Common.{◌≡◌, ℕ, Bool, true, false, List, [], Option, Some, None, refl}
 use Rattle.std.specs.Prelude.{Result, Ok, Err}
 use Rattle.kds_defs.specs.declared.command.Target.{Target}
@@ -15,29 +13,23 @@ use Rattle.kds_defs.specs.LeaseCommands.{past_parent, past_parents, past_target}
 use Rattle.kds_defs.specs.Leases.{TenureState}
 use Rattle.kds_defs.specs.Shards.{ShardState}
 
--- A decision leads to the statement `P` if `P` is true of the lines that the decision adds and of its answer. A refusal
--- adds no lines.
+-- The statement `P` is true of the decision's lines and answer.
 abbrev pub Leads : (List Line → Result Reply Refusal → Type 0) → Decision → Type 0
 Leads P (Refused r) = P [] (Err r)
 Leads P (Accepted lines reply) = P lines (Ok reply)
 
--- If the decision `d` leads to `P`, `P` is true of the lines that `d` adds and of its answer.
 pub leads_so : (P : List Line → Result Reply Refusal → Type 0) (d : Decision) → Leads P d → P (lines_of d) (answer_of d)
 leads_so P (Refused r) h = h
 leads_so P (Accepted lines reply) h = h
 
--- The decision `refuse r if b else d` leads to `P` on two conditions: `P` is true of the refusal `r` and no lines, and
--- `d` leads to `P` if `b` is false.
 pub if_refused : (P : List Line → Result Reply Refusal → Type 0) (r : Refusal) (b : Bool) (d : Decision)
     → P [] (Err r) → (b ≡ false → Leads P d) → Leads P (refuse r if b else d)
 unfolding refuse◌if◌else◌
 if_refused P r true d h g = h
 if_refused P r false d h g = g refl
 
--- The decision `with o or r then d` leads to `P` on two conditions: `P` is true of the refusal `r` and no lines, and
--- `d x` leads to `P` if `o` has the value `x`.
-pub if_none : {A : Type 0} (P : List Line → Result Reply Refusal → Type 0) (r : Refusal) (o : Option A) (d : A
-    → Decision)
+pub if_none : {A : Type 0} (P : List Line → Result Reply Refusal → Type 0) (r : Refusal) (o : Option A)
+    (d : A → Decision)
     → P [] (Err r) → ((x : A) → o ≡ Some x → Leads P (d x)) → Leads P (with o or r then d)
 unfolding with◌or◌then◌
 if_none P r None d h g = h
@@ -45,15 +37,11 @@ if_none P r (Some x) d h g = g x refl
 
 -- ---- If `P` is true of each refusal and no lines
 
--- Suppose that `P` is true of each refusal with no lines, and that `d` leads to `P` if `b` is false. Then the decision
--- `refuse r if b else d` leads to `P`.
 pub past_test : (P : List Line → Result Reply Refusal → Type 0) → ((r : Refusal) → P [] (Err r))
     → (r : Refusal) (b : Bool) (d : Decision)
     → (b ≡ false → Leads P d) → Leads P (refuse r if b else d)
 past_test P all r b d next = if_refused P r b d (all r) next
 
--- Suppose that `P` is true of each refusal with no lines, and that `d x` leads to `P` if `o` has the value `x`. Then
--- the decision `with o or r then d` leads to `P`.
 pub past_none : {A : Type 0} (P : List Line → Result Reply Refusal → Type 0) → ((r : Refusal) → P [] (Err r))
     → (r : Refusal) (o : Option A)
     (d : A → Decision) → ((x : A) → o ≡ Some x → Leads P (d x)) → Leads P (with o or r then d)
@@ -61,27 +49,21 @@ past_none P all r o d next = if_none P r o d (all r) next
 
 -- ---- If `P` is true of each refusal that a command for leases may get, and no lines
 
-module _ (P : List Line → Result Reply Refusal → Type 0) (each : (r : Refusal) → is_lease_refusal r ≡ true
-    → P [] (Err r)) where
-  -- If the decision `d` leads to `P`, the decision `past_parent` does too. It refuses if the parent `o` is listed and
-  -- not processed to its end, and otherwise it is `d`.
+module _ (P : List Line → Result Reply Refusal → Type 0)
+    (each : (r : Refusal) → is_lease_refusal r ≡ true → P [] (Err r)) where
   pub past_a_parent : (log : Journal) (c s : ℕ) (o : Option ℕ) (d : Decision) → Leads P d
       → Leads P (past_parent log c s o d)
   past_a_parent log c s None d next = next
   past_a_parent log c s (Some parent) d next = if_refused P _ _ _ (each _ refl) (λ e. next)
 
-  -- If the decision `d` leads to `P`, the decision `past_parents` does too. It refuses if some parent of the shard `o`
-  -- is listed and not processed to its end, and otherwise it is `d`.
   pub past_the_parents : (log : Journal) (c s : ℕ) (o : Option ShardState) (d : Decision) → Leads P d
       → Leads P (past_parents log c s o d)
   past_the_parents log c s None d next = next
   past_the_parents log c s (Some x) d next =
       past_a_parent log c s x.parent (past_parent log c s x.adjacent d) (past_a_parent log c s x.adjacent d next)
 
-  -- If the decision `d` leads to `P`, the decision `past_target` does too. It refuses if the checkpoint of the row of
-  -- the tenure `T` may not be set to `to`, and otherwise it is `d`.
-  pub past_the_target : (log : Journal) (T : TenureState) (to : Target) (d : Decision) → Leads P d
-      → Leads P (past_target log T to d)
+  pub past_the_target : (log : Journal) (T : TenureState) (goal : Target) (d : Decision) → Leads P d
+      → Leads P (past_target log T goal d)
   past_the_target log T (target.At q) d next =
       if_refused P _ _ _ (each _ refl)
       (λ a. if_refused P _ _ _ (each _ refl) (λ b. if_refused P _ _ _ (each _ refl) (λ e. next)))

@@ -1,5 +1,4 @@
--- Worked examples of leases, computed from the definitions. Each example states the answers to a list of turns after an
--- empty history.
+-- Worked examples of leases: the answers to a list of turns after an empty history.
 use Rattle.std.specs.Prelude.{ℕ, ◌≡◌, true, false, List, [], ◌∷◌, ◌++◌, Some, None, Ok, Err, Result}
 use Rattle.std.proofs.Common.{refl}
 use Rattle.kds_base.specs.declared.lease_key.ShardRef.{ShardRef}
@@ -18,9 +17,8 @@ use Rattle.kds_defs.specs.declared.reply.Stored.{Stored}
 use Rattle.kds_defs.specs.Decision.{refuse◌if◌else◌, with◌or◌then◌}
 use Rattle.kds_defs.specs.Histories.{answers}
 
--- A turn of the actor `by`. In these examples, an actor other than 0 is the worker with the actor's number.
 turn : ℕ → ℕ → Command → Turn
-turn by at what = record { by = by; at = at; what = what }
+turn actor moment asked = record { by = actor; at = moment; what = asked }
 
 name : List ℕ
 name = 115 ∷ []
@@ -28,15 +26,13 @@ name = 115 ∷ []
 item : NewItem
 item = record { key = 97 ∷ []; hash = 0x0cc175b9c0f1b6a831c399e269772661; payload = 104 ∷ 105 ∷ [] }
 
--- A record with the key and the payload of `item`, as a read returns it.
+-- The example's record as a read returns it.
 kept : ℕ → ℕ → Stored
 kept seq arrival = record { seq = seq; arrival = arrival; key = 97 ∷ []; payload = 104 ∷ 105 ∷ [] }
 
--- The key that names the shard `shard` of stream 1.
 key : ℕ → ShardRef
 key shard = record { stream = 1; shard = shard }
 
--- A stream with one shard gets two records, and worker 1 makes a row for the shard.
 begun : List Turn
 begun =
     turn 0 3000 (command.Create name 1)
@@ -44,7 +40,6 @@ begun =
     ∷ turn 0 3000 (command.Put name item)
     ∷ turn 1 3000 (command.MakeLease (key 0) origin.TrimHorizon) ∷ []
 
--- The answers to the turns `begun`.
 begun_so : List (Result Reply Refusal)
 begun_so =
     Ok reply.Done
@@ -52,8 +47,6 @@ begun_so =
     ∷ Ok (reply.Put (record { shard = 0; seq = 2 }))
     ∷ Ok (reply.Leased origin.TrimHorizon) ∷ []
 
--- Worker 1 takes the row and reads, and then worker 2 takes the row away. Worker 1 may still give what it read, but it
--- can't set the checkpoint any more. Worker 2 can't set the checkpoint in the tenure of worker 1 either.
 robbed : List Turn
 robbed =
     turn 1 3000 (command.Take (key 0) 0 1)
@@ -65,7 +58,6 @@ robbed =
     ∷ turn 1 3000 (command.Mark 1 1 (target.At 2))
     ∷ turn 2 3000 (command.Mark 1 2 (target.At 2)) ∷ []
 
--- The answers to the turns `robbed`, which come after the turns `begun`.
 robbed_so : List (Result Reply Refusal)
 robbed_so =
     Ok (reply.Taken 1 1 checkpoint.TrimHorizon)
@@ -77,14 +69,10 @@ robbed_so =
     ∷ Err (refusal.Lost 2)
     ∷ Err refusal.NotYours ∷ []
 
--- The turns `begun` and `robbed` get the answers `begun_so` and `robbed_so`.
 robbed_lease : answers [] (begun ++ robbed) ≡ begun_so ++ robbed_so
 unfolding refuse◌if◌else◌ with◌or◌then◌ turn name item kept key begun begun_so robbed robbed_so
 robbed_lease = refl
 
--- What worker 2 does after it took the row. It must read at its reach, and it can't renew a row that it freed. It can't
--- set the checkpoint to a record that isn't given, below the present checkpoint, or to the end of a shard that it
--- hasn't read to the end.
 order_of_marks : answers [] (
     begun ++ robbed
     ++ turn 2 3000 (command.OpenShard 2)
@@ -128,7 +116,6 @@ order_of_marks : answers [] (
 unfolding refuse◌if◌else◌ with◌or◌then◌ turn name item kept key begun begun_so robbed robbed_so
 order_of_marks = refl
 
--- The child of a merge is opened only after both of its parents were read to their ends and marked there.
 two_parents : answers [] (
     turn 0 4000 (command.Create name 2)
     ∷ turn 0 4000 (command.Merge name 0 1)
@@ -168,8 +155,6 @@ two_parents : answers [] (
 unfolding refuse◌if◌else◌ with◌or◌then◌ turn name key
 two_parents = refl
 
--- The parents of a merged shard are never read. Their child can't be opened until the parents are expired, and the row
--- of a parent can't be removed earlier either.
 expired_parent : answers [] (
     turn 0 4000 (command.Create name 2)
     ∷ turn 0 4000 (command.Merge name 0 1)
@@ -189,8 +174,6 @@ expired_parent : answers [] (
 unfolding refuse◌if◌else◌ with◌or◌then◌ turn name key
 expired_parent = refl
 
--- A read may be given even if the record that it returned is trimmed meanwhile. The checkpoint may be set to this
--- record too.
 read_trim_give : answers [] (
     turn 0 1000 (command.Create name 1)
     ∷ turn 0 1000 (command.Put name item)

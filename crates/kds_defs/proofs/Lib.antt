@@ -9,7 +9,7 @@ pub mod ScalingExamples
 pub mod ThroughputExamples
 pub mod Leads
 pub mod Walk
-mod LastPlaces
+pub mod LastPlaces
 pub mod Batches
 pub mod Counted
 pub mod Keys

@@ -1,4 +1,4 @@
--- Worked examples of scaling and of limits on throughput, computed from the definitions.
+-- Worked examples of scaling and of limits on throughput.
 use Rattle.std.specs.Prelude.{ℕ, ◌≡◌, true, false, List, [], ◌∷◌, Ok, Err}
 use Rattle.std.proofs.Common.{refl}
 use Rattle.kds_defs.specs.declared.command.Command.{Command}
@@ -15,7 +15,7 @@ use Rattle.kds_defs.specs.Journal.{Journal, plain_line}
 use Rattle.kds_defs.specs.PutCommands.{is_held_back}
 
 turn : ℕ → Command → Turn
-turn at what = record { by = 0; at = at; what = what }
+turn moment asked = record { by = 0; at = moment; what = asked }
 
 name : List ℕ
 name = 115 ∷ []
@@ -23,8 +23,6 @@ name = 115 ∷ []
 item : NewItem
 item = record { key = 97 ∷ []; hash = 0x0cc175b9c0f1b6a831c399e269772661; payload = [] }
 
--- Two shards are scaled to three by one merge and two splits. These three steps take the sequence numbers 1 to 3, so
--- the next put takes 4. Scaling three shards to three gives no entry, and scaling to 501 shards is refused.
 scaled : answers [] (
     turn 1000 (command.Create name 2)
     ∷ turn 1000 (command.Scale name 3)
@@ -40,8 +38,6 @@ scaled : answers [] (
 unfolding refuse◌if◌else◌ with◌or◌then◌ turn name item
 scaled = refl
 
--- The journal of a stream whose limits are on, and whose only shard has one record, put at the time 5000. The record
--- has 1,048,575 bytes of payload and a key of one byte.
 filled : Journal
 filled =
     record {
@@ -55,18 +51,14 @@ filled =
     ∷ plain_line 1000 0 (entry.Made 1 (115 ∷ []) 1)
     ∷ []
 
--- At the time 5999, which is in the same second, the shard of `filled` has no room for `item`, so `item` is throttled.
 within_the_second : is_held_back filled 5999 1 item ≡ true
 unfolding filled item
 within_the_second = refl
 
--- At the time 6000, which is in the next second, the shard of `filled` has room for `item` again.
 in_the_next : is_held_back filled 6000 1 item ≡ false
 unfolding filled item
 in_the_next = refl
 
--- After the limits of a stream are turned on, two small records that are put together are both stored. The limits of a
--- stream that doesn't exist can't be turned on.
 enforced : answers [] (
     turn 1000 (command.Create name 1)
     ∷ turn 5000 (command.Enforce name true)

@@ -1,25 +1,20 @@
--- Each hash key lies in the range of exactly one open shard of a new stream, and this stays so after a split and after
--- a merge (`IsTiled`).
+-- A hash key is in one open shard of a new stream, and this stays so after splits and merges.
 use Rattle.std.proofs.Common.{◌≡◌, ℕ, zero, suc, ◌+◌, ◌-◌, ◌*◌, ◌/◌, ◌%◌, ◌^◌, ◌<◌, ◌≤◌, Bool, true, false, List, []}
 use Rattle.std.proofs.Common.{◌∷◌, ◌++◌, map, Option, Some, refl, sym, ap, ◌∙◌, arith}
 use Rattle.std.specs.Prelude.{nat_le, slice_get, cond, if◌then◌else◌}
 use Rattle.std.specs.List.{AllByRecursion, filter}
 use Rattle.std.proofs.lemmas.Bool.Decides.{nat_tests}
+use Rattle.std.proofs.lemmas.Option.{same_Some}
 use Rattle.kds_base.specs.Span.{Span, is_inside, lower_part, upper_part, are_adjacent, joined, last_key, uniform_from}
 use Rattle.kds_base.specs.Span.{uniform}
-use Rattle.kds_base.proofs.Facts.{same_some}
 use Rattle.kds_defs.specs.Safe.{times_covered}
 use Rattle.kds_defs.specs.Shards.{ShardState, Closing, is_open, new_shard, first_shards, with_closed}
 use Rattle.kds_defs.specs.Tiled.{one, count_if, open_times, IsOrdered, IsTiled}
 
--- If the Boolean `b` is true, `count_if` of `b` and `n` is `n`.
 pub counted : (b : Bool) (n : ℕ) → b ≡ true → count_if b n ≡ n
 counted true n h = refl
 counted false n h = absurd cc
 
--- Two counts of the open shards that contain the key `k`: `times_covered` counts the ranges of the open shards, and
--- `open_times` counts the shards. If the two counts are equal for `xs`, they are equal for `xs` with the shard `x` in
--- front. The Boolean `b` says whether `x` is open.
 same_times_by : (b : Bool) (x : ShardState) (xs : List ShardState) (k : ℕ)
     → times_covered (map (λ y. y.range) (filter is_open xs)) k ≡ open_times xs k
     → times_covered (map (λ y. y.range) (cond b (x ∷ filter is_open xs) (filter is_open xs))) k
@@ -27,8 +22,7 @@ same_times_by : (b : Bool) (x : ShardState) (xs : List ShardState) (k : ℕ)
 same_times_by true x xs k h = omega (arith)
 same_times_by false x xs k h = omega (arith)
 
--- The number of ranges of open shards that contain the key `k` (`times_covered`) is the number of open shards that
--- contain `k` (`open_times`).
+-- Both ways of counting the open shards with a key agree.
 pub same_times : (xs : List ShardState) (k : ℕ) → times_covered (map (λ x. x.range) (filter is_open xs)) k
     ≡ open_times xs k
 same_times [] k = refl
@@ -38,8 +32,6 @@ open_times-append : (xs ys : List ShardState) (k : ℕ) → open_times (xs ++ ys
 open_times-append [] ys k = omega arith
 open_times-append (x ∷ xs) ys k = omega (arith, open_times-append xs ys k)
 
--- After an open shard `x` is closed, the number of open shards that contain the key `k` is lower by one if `x` contains
--- `k`, and the same otherwise.
 open_times-closed : (xs : List ShardState) (sh : ℕ) (closing : Closing) (x : ShardState) (k : ℕ)
     → slice_get xs sh ≡ Some x → is_open x ≡ true → open_times (with_closed sh closing xs) k + one x.range k
     ≡ open_times xs k
@@ -54,7 +46,6 @@ open_times-closed (y ∷ ys) zero closing x k is open_now =
 open_times-closed (y ∷ ys) (suc sh) closing x k is open_now =
     omega (arith, open_times-closed ys sh closing x k is open_now)
 
--- If no shard of `xs` has an empty range, this is still so after the shard at the index `sh` is closed.
 ordered-closed : (xs : List ShardState) (sh : ℕ) (closing : Closing) → AllByRecursion IsOrdered xs
     → AllByRecursion IsOrdered (with_closed sh closing xs)
 ordered-closed [] sh closing h = tt
@@ -66,7 +57,6 @@ ordered-append : (xs ys : List ShardState) → AllByRecursion IsOrdered xs → A
 ordered-append [] ys h g = g
 ordered-append (x ∷ xs) ys h g = (h.0, ordered-append xs ys h.1 g)
 
--- If no shard of `xs` has an empty range, the shard `x` at the index `sh` doesn't.
 pub ordered-at : (xs : List ShardState) (sh : ℕ) (x : ShardState) → slice_get xs sh ≡ Some x
     → AllByRecursion IsOrdered xs → x.range.start ≤ x.range.end
 ordered-at [] sh x is h = absurd cc
@@ -74,7 +64,6 @@ ordered-at (y ∷ ys) zero x is h = let e : y ≡ x = cc in
     omega (arith, h.0, ap (λ (z : ShardState). z.range.start) e, ap (λ (z : ShardState). z.range.end) e)
 ordered-at (y ∷ ys) (suc sh) x is h = ordered-at ys sh x is h.1
 
--- After the shard at the index `sh` is closed, the shard at any other index is the same as before.
 pub other-closed : (xs : List ShardState) (sh other : ℕ) (closing : Closing) → (sh ≡ other → ⊥)
     → slice_get (with_closed sh closing xs) other ≡ slice_get xs other
 other-closed [] sh other closing differ = refl
@@ -83,15 +72,15 @@ other-closed (y ∷ ys) zero (suc other) closing differ = refl
 other-closed (y ∷ ys) (suc sh) zero closing differ = refl
 other-closed (y ∷ ys) (suc sh) (suc other) closing differ = other-closed ys sh other closing (λ e. differ (ap suc e))
 
-one_split : (r : Span) (at k : ℕ) → is_inside r at ≡ true → one (lower_part r at) k + one (upper_part r at) k ≡ one r k
-one_split r at k h = grind (arith)
+one_split : (r : Span) (hash k : ℕ) → is_inside r hash ≡ true → one (lower_part r hash) k + one (upper_part r hash) k
+    ≡ one r k
+one_split r hash k h = grind (arith)
 
--- If a range `r` is split at a key `at` inside it, the lower part isn't empty.
-lower_ordered : (r : Span) (at : ℕ) → is_inside r at ≡ true → r.start ≤ at - 1
-lower_ordered r at h = grind (arith)
+lower_ordered : (r : Span) (hash : ℕ) → is_inside r hash ≡ true → r.start ≤ hash - 1
+lower_ordered r hash h = grind (arith)
 
-upper_ordered : (r : Span) (at : ℕ) → is_inside r at ≡ true → at ≤ r.end
-upper_ordered r at h = grind (arith)
+upper_ordered : (r : Span) (hash : ℕ) → is_inside r hash ≡ true → hash ≤ r.end
+upper_ordered r hash h = grind (arith)
 
 one_join : (a b : Span) (k : ℕ) → a.start ≤ a.end → b.start ≤ b.end → are_adjacent a b ≡ true
     → one (joined a b) k ≡ one a k + one b k
@@ -101,7 +90,6 @@ joined_ordered : (a b : Span) → a.start ≤ a.end → b.start ≤ b.end → ar
     → (joined a b).start ≤ (joined a b).end
 joined_ordered a b oa ob h = grind (arith)
 
--- If the range `a` isn't empty and is adjacent to the range `b`, then `a` isn't `b`.
 no_self : (a b : Span) → a.start ≤ a.end → are_adjacent a b ≡ true → a ≡ b → ⊥
 no_self a b oa h e = let s : a.start ≡ b.start = ap (λ (r : Span). r.start) e in let t : a.end ≡ b.end =
     ap (λ (r : Span). r.end) e in grind (arith)
@@ -109,31 +97,27 @@ no_self a b oa h e = let s : a.start ≡ b.start = ap (λ (r : Span). r.start) e
 same_at : (xs : List ShardState) (sh other : ℕ) (x y : ShardState) → slice_get xs sh ≡ Some x
     → slice_get xs other ≡ Some y → sh ≡ other → x.range ≡ y.range
 same_at xs sh other x y is is' e = let s : Some x ≡ Some y = sym is ∙ ap (slice_get xs) e ∙ is' in
-    ap (λ (z : ShardState). z.range) (same_some x y s)
+    ap (λ (z : ShardState). z.range) (same_Some x y s)
 
--- If the shards `xs` are tiled (`IsTiled`), they still are after an open shard `x` of them is split at a key inside its
--- range.
-pub tiled_split : (xs : List ShardState) (sh n m at start : ℕ) (closing : Closing) (p q : Option ℕ) (x : ShardState)
-    → slice_get xs sh ≡ Some x → is_open x ≡ true → is_inside x.range at ≡ true → IsTiled xs
+pub tiled_split : (xs : List ShardState) (sh n m hash start : ℕ) (closing : Closing) (p q : Option ℕ) (x : ShardState)
+    → slice_get xs sh ≡ Some x → is_open x ≡ true → is_inside x.range hash ≡ true → IsTiled xs
     → IsTiled (with_closed sh closing xs
-    ++ (new_shard n (lower_part x.range at) p q start ∷ new_shard m (upper_part x.range at) p q start ∷ []))
-tiled_split xs sh n m at start closing p q x is open_now inside tiled = record {
+    ++ (new_shard n (lower_part x.range hash) p q start ∷ new_shard m (upper_part x.range hash) p q start ∷ []))
+tiled_split xs sh n m hash start closing p q x is open_now inside tiled = record {
   times = λ k below. omega (
     arith,
     tiled.times k below,
-    one_split x.range at k inside,
+    one_split x.range hash k inside,
     open_times-closed xs sh closing x k is open_now,
-    open_times-append (with_closed sh closing xs) (new_shard n (lower_part x.range at) p q start
-        ∷ new_shard m (upper_part x.range at) p q start ∷ []) k,
+    open_times-append (with_closed sh closing xs) (new_shard n (lower_part x.range hash) p q start
+        ∷ new_shard m (upper_part x.range hash) p q start ∷ []) k,
   );
   ordered = ordered-append _ _ (ordered-closed xs sh closing tiled.ordered) (
-    lower_ordered x.range at inside,
-    (upper_ordered x.range at inside, tt),
+    lower_ordered x.range hash inside,
+    (upper_ordered x.range hash inside, tt),
   );
 }
 
--- If the shards `xs` are tiled (`IsTiled`), they still are after two open shards `x` and `y` of them with adjacent
--- ranges are merged.
 pub tiled_merge : (xs : List ShardState) (sh other n start : ℕ) (closing : Closing) (p q : Option ℕ) (x y : ShardState)
     → slice_get xs sh ≡ Some x → slice_get xs other ≡ Some y → is_open x ≡ true → is_open y ≡ true
     → are_adjacent x.range y.range ≡ true → IsTiled xs
@@ -160,7 +144,7 @@ tiled_merge xs sh other n start closing p q x y is is' open_x open_y touch tiled
 
 -- ---- A new stream
 
--- The number 1 if the key `k` is at or above `a`, and 0 otherwise.
+-- 1 if the key `k` is at or above `a`, and 0 otherwise.
 abbrev from_on : ℕ → ℕ → ℕ
 from_on a k = if nat_le a k then 1 else 0
 
@@ -182,8 +166,7 @@ ordered_uniform w a zero i start wide fits = (omega (arith), tt)
 ordered_uniform w a (suc n) i start wide fits =
     (omega (arith), ordered_uniform w (a + w) n (i + 1) start wide (omega (arith)))
 
--- Let the width `w` be 2^128 / (n + 1), rounded down, for at most 500 ranges. Then `w` isn't 0, and the key `n * w`, at
--- which the last of `n + 1` uniform ranges starts, isn't above the last hash key.
+-- For up to 500 ranges, the width isn't 0, and the last range starts within the keys.
 pub width_fits : (n w r : ℕ) → suc n * w + r ≡ 2 ^ 128 → r < suc n → suc n ≤ 500 → (0 < w) × (0 + n * w ≤ last_key)
 width_fits n zero r e lt le = absurd (omega arith)
 width_fits n (suc w) r e lt le = (omega arith, omega arith)
@@ -191,7 +174,6 @@ width_fits n (suc w) r e lt le = (omega arith, omega arith)
 from_start : (k : ℕ) → from_on 0 k ≡ 1
 from_start k = grind (arith)
 
--- The shards of a new stream with 1 to 500 shards are tiled (`IsTiled`).
 pub tiled_new : (count start : ℕ) → 1 ≤ count → count ≤ 500 → IsTiled (first_shards 0 start (uniform count))
 tiled_new zero start low high = absurd (omega arith)
 tiled_new (suc n) start low high =

@@ -1,9 +1,8 @@
--- The journal is the event log of a machine: a list of lines, the newest first.
+-- The journal, a machine's event log: a list of lines, the newest first.
 use Rattle.std.specs.Prelude.{ℕ, List, [], ◌∷◌}
 use Rattle.kds_defs.specs.declared.entry.Entry.{Entry}
 
--- A line of the journal: the clock at which it was added, the number of the actor whose command added it, and its entry
--- (the event). The line of a put also has the record's partition key and payload, as bytes.
+-- An event with its command's clock and actor, and for a put also the record's partition key and payload.
 pub record Line : Type 0 where
   pub clock : ℕ
   pub by : ℕ
@@ -11,16 +10,15 @@ pub record Line : Type 0 where
   pub key : List ℕ
   pub payload : List ℕ
 
--- A list of lines, the newest first: `line ∷ log` is the journal `log` followed by `line`.
+-- A machine's event log, the newest line first.
 abbrev pub Journal : Type 0
 Journal = List Line
 
--- The journal `log` with `lines` added one after another. Unlike a journal, `lines` has its oldest line first.
-abbrev pub with_lines : List Line → Journal → Journal
+-- The journal after `lines`, which, unlike a journal, have the oldest first.
+abbrev pub with_lines : (lines : List Line) (log : Journal) → Journal
 with_lines [] log = log
 with_lines (line ∷ lines) log = with_lines lines (line ∷ log)
 
--- The line with the entry `what`, added at the clock `clock` by the actor `by`, with an empty key and an empty payload.
--- All entries other than puts have such lines.
-abbrev pub plain_line : ℕ → ℕ → Entry → Line
-plain_line clock by what = record { clock = clock; by = by; what = what; key = []; payload = [] }
+-- A line with an empty key and payload, as all entries other than puts have it.
+abbrev pub plain_line : (clock actor : ℕ) (entry : Entry) → Line
+plain_line clock actor entry = record { clock = clock; by = actor; what = entry; key = []; payload = [] }

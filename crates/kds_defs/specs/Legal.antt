@@ -1,5 +1,4 @@
--- The journals that a machine can leave: each line records a command that is accepted after the lines before it. In
--- this file, `log` is a journal.
+-- The journals that a machine can leave: each line states a command that is accepted after the lines before it.
 use Rattle.std.specs.Prelude.{ℕ, ◌-◌, ◌^◌, ◌<◌, ◌≤◌, ◌≡◌, not, nat_lt, [], ◌∷◌, Option, Some, None}
 use Rattle.kds_defs.specs.declared.command.NewItem.{NewItem}
 use Rattle.kds_defs.specs.declared.entry.Entry.{Entry}
@@ -15,70 +14,66 @@ use Rattle.kds_defs.specs.StreamCommands.{create, delete, split, merge, keep}
 use Rattle.kds_defs.specs.PutCommands.{enforce, put}
 use Rattle.kds_defs.specs.Streams.{is_live, hours}
 
--- The decision `next` if stream `s` is live, and the refusal `NoStream` otherwise.
-abbrev pub in_stream : Journal → ℕ → Decision → Decision
+-- The decision `next` if the stream is live, and the refusal `NoStream` otherwise.
+abbrev pub in_stream : (log : Journal) (s : ℕ) (next : Decision) → Decision
 in_stream log s next = refuse refusal.NoStream if not (is_live log s) else next
 
--- The record that was put by `line`, the line of a put with the hash key `hash`.
-abbrev pub item_of : Line → ℕ → NewItem
+-- The record that the line of a put has.
+abbrev pub item_of : (line : Line) (hash : ℕ) → NewItem
 item_of line hash = record { key = line.key; hash = hash; payload = line.payload }
 
--- The reach of a tenure, which is the position after all its reads, or 0 if there is no tenure.
-abbrev pub reach_in : Option TenureState → ℕ
+-- The reach of a tenure, or 0 if there is no tenure.
+abbrev pub reach_in : (tenure_state : Option TenureState) → ℕ
 reach_in None = 0
 reach_in (Some T) = reach T
 
--- The decision on the command that the entry of `line` (the last argument) records, by the actor and at the clock of
--- `line`, after the lines of `log`. Each record of a PutRecords counts as a PutRecord, and each step of a scaling as a
--- SplitShard or MergeShards.
-abbrev pub told : Journal → Line → Entry → Decision
+-- The decision on the command that a line states; a put of a PutRecords counts as PutRecord,
+-- and a step of a scaling as SplitShard or MergeShards.
+abbrev pub told : (log : Journal) (line : Line) (entry : Entry) → Decision
 told log line (entry.Made s name count) = create log line.clock line.by name count
 told log line (entry.Gone s) = in_stream log s (delete log line.clock line.by s)
 told log line (entry.Put s sh number hash bytes key_bytes) =
     in_stream log s (put log line.clock line.by s (item_of line hash))
-told log line (entry.Split s sh at number low high) = in_stream log s (split log line.clock line.by s sh at)
+told log line (entry.Split s sh key_hash number low high) = in_stream log s (split log line.clock line.by s sh key_hash)
 told log line (entry.Merged s sh other number child) = in_stream log s (merge log line.clock line.by s sh other)
 told log line (entry.Kept s wanted) =
     in_stream log s (keep log line.clock line.by s wanted (not (nat_lt wanted (hours log s))))
-told log line (entry.Enforced s on) = in_stream log s (enforce log line.clock line.by s on)
-told log line (entry.LeaseMade key from) = make_lease log line.clock line.by key from
+told log line (entry.Enforced s is_on) = in_stream log s (enforce log line.clock line.by s is_on)
+told log line (entry.LeaseMade key origin) = make_lease log line.clock line.by key origin
 told log line (entry.Taken key t counter owner) = take_lease log line.clock line.by key (counter - 1) owner
 told log line (entry.Renewed t counter) = renew log line.clock line.by t (counter - 1)
 told log line (entry.Freed t counter) = free log line.clock line.by t (counter - 1)
 told log line (entry.Opened t) = open_shard log line.clock line.by t
 told log line (entry.Read t limit ended numbers) = read log line.clock line.by t (reach_in (tenure log t)) limit
 told log line (entry.Given t) = give log line.clock line.by t
-told log line (entry.Marked t counter to) = mark log line.clock line.by t (counter - 1) to
+told log line (entry.Marked t counter target) = mark log line.clock line.by t (counter - 1) target
 told log line (entry.LeaseCut key counter) = cut_lease log line.clock line.by key counter
 
--- The numbers of an entry are within their ranges: the number of shards of a new stream, the hash key of a put, and a
--- new retention.
-abbrev pub IsInRange : Entry → Type 0
+-- The entry's shard count, hash key or retention is within its range.
+abbrev pub IsInRange : (entry : Entry) → Type 0
 IsInRange (entry.Made s name count) = IsShardCount count
 IsInRange (entry.Put s sh number hash bytes key_bytes) = hash < 2 ^ 128
 IsInRange (entry.Kept s wanted) = IsRetention wanted
 IsInRange _ = Unit {0}
 
--- The clock of the newest line of a journal, or 0 if there are no lines.
-abbrev pub last_clock : Journal → ℕ
+-- The clock of the newest line, or 0 if there are no lines.
+abbrev pub last_clock : (log : Journal) → ℕ
 last_clock [] = 0
 last_clock (line ∷ log) = line.clock
 
--- The line `line` is good after the lines of `log`: the command that `line` records is accepted after these lines, and
--- adds exactly `line`. The clock of `line` isn't below that of the newest line of `log`, and the numbers in the entry
--- of `line` are within their ranges.
+-- The line is good: in order and in range, and its command is accepted and adds exactly this line.
 pub record IsGood (log : Journal) (line : Line) : Type 0 where
   pub in_order : last_clock log ≤ line.clock
   pub in_range : IsInRange line.what
   pub reply : Reply
   pub allowed : told log line line.what ≡ Accepted (line ∷ []) reply
 
--- Each line of a journal is good (`IsGood`) after the lines before it.
-abbrev pub IsLegal : Journal → Type 0
+-- Each line is good (`IsGood`) after the lines before it.
+abbrev pub IsLegal : (log : Journal) → Type 0
 IsLegal [] = Unit {0}
 IsLegal (line ∷ log) = IsGood log line × IsLegal log
 
--- The journal `log` can be left by a machine whose clock is `c`: it is legal, and none of its lines is later than `c`.
+-- The journal is legal, and no line is later than the clock `c`.
 pub record IsReached (log : Journal) (c : ℕ) : Type 0 where
   pub legal : IsLegal log
   pub order : last_clock log ≤ c

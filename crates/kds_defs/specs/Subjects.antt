@@ -1,4 +1,4 @@
--- Which stream an entry or a command is about, and what a journal says of a stream that none of its lines is about.
+-- The stream that an entry or a command is about, and what a journal says of a stream that no line is about.
 use Rattle.std.specs.Prelude.{ℕ, ◌≡◌, false, List, [], Option, Some, None}
 use Rattle.kds_defs.specs.declared.command.Command.{Command}
 use Rattle.kds_defs.specs.declared.command.Command.TheVariants as command
@@ -11,38 +11,34 @@ use Rattle.kds_defs.specs.Records.{next_number, records}
 use Rattle.kds_defs.specs.Shards.{shards}
 use Rattle.kds_defs.specs.Streams.{floor_of_lines, is_live, was_made}
 
--- The number of the stream that an entry is about, or `None` if the entry is about a row or a tenure.
-abbrev pub stream_of : Entry → Option ℕ
+-- The stream that an entry is about, or `None` for rows and tenures.
+abbrev pub stream_of : (entry : Entry) → Option ℕ
 stream_of (entry.Made s name count) = Some s
 stream_of (entry.Gone s) = Some s
 stream_of (entry.Put s sh number hash bytes key_bytes) = Some s
-stream_of (entry.Split s sh at number low high) = Some s
+stream_of (entry.Split s sh key_hash number low high) = Some s
 stream_of (entry.Merged s sh other number child) = Some s
 stream_of (entry.Kept s hours) = Some s
-stream_of (entry.Enforced s on) = Some s
+stream_of (entry.Enforced s is_on) = Some s
 stream_of _ = None
 
--- The name of the stream that a command names, if this stream must be live. For CreateStream it is `None`, because the
--- stream doesn't exist yet. It is also `None` for ListStreams, for commands with an iterator or a token in place of a
--- name, and for commands on leases.
-abbrev pub name_of_command : Command → Option (List ℕ)
+-- The name of a stream that must be live for the command, or `None` if the command names no such stream.
+abbrev pub name_of_command : (command : Command) → Option (List ℕ)
 name_of_command (command.Delete name) = Some name
 name_of_command (command.Describe name after limit) = Some name
 name_of_command (command.Summary name) = Some name
 name_of_command (command.Shards name after limit) = Some name
-name_of_command (command.GetIterator name sh from) = Some name
+name_of_command (command.GetIterator name sh start) = Some name
 name_of_command (command.Put name item) = Some name
 name_of_command (command.PutMany name items) = Some name
-name_of_command (command.Split name sh at) = Some name
+name_of_command (command.Split name sh hash) = Some name
 name_of_command (command.Merge name sh other) = Some name
 name_of_command (command.Keep name hours raise) = Some name
 name_of_command (command.Scale name target) = Some name
-name_of_command (command.Enforce name on) = Some name
+name_of_command (command.Enforce name is_on) = Some name
 name_of_command _ = None
 
--- The journal `log` says of stream `s` what an empty journal says. The stream was never made and isn't live, its next
--- sequence number is 1, and the trim floor that the lines of `log` give the stream is 0. The stream has no shards,
--- records or puts, and its limits on throughput are off.
+-- The journal says of stream `s` what an empty journal says.
 pub record IsFresh (log : Journal) (s : ℕ) : Type 0 where
   pub gone : is_live log s ≡ false
   pub unmade : was_made log s ≡ false

@@ -4,10 +4,8 @@ use Rattle.kds_base.specs.Span.{Span}
 use Rattle.kds_base.specs.declared.lease_key.Checkpoint.{Checkpoint}
 use Rattle.kds_base.specs.declared.lease_key.ShardRef.{ShardRef}
 
--- A row of the lease table (Kinesis Client Library, lease): its key, the worker that owns the row, if any, the row's
--- counter and the row's checkpoint. `switches` counts the takes from another worker since the checkpoint was last set,
--- and `tenure` is the number of the tenure that holds the row, or 0. `floor` is the sequence number at which reading of
--- the shard begins, and the last two fields are the shard's parents, if any.
+-- A row (Kinesis Client Library, lease): `switches` counts takes from another worker since the last mark,
+-- `tenure` is the holder or 0, and reading of the shard begins at the sequence number `floor`.
 pub record RowValue : Type 0 where
   pub key : ShardRef
   pub owner : Option ℕ
@@ -19,9 +17,7 @@ pub record RowValue : Type 0 where
   pub parent : Option ℕ
   pub adjacent : Option ℕ
 
--- A shard as replies show it (Kinesis API Reference, Shard): its number in its stream, its range of hash keys and its
--- parents, if any. `start` is the shard's starting sequence number. If the shard is closed, `end` is its ending
--- sequence number.
+-- A shard as replies show it (Kinesis API Reference, Shard), with its starting and ending sequence numbers.
 pub record ShardValue : Type 0 where
   pub no : ℕ
   pub range : Span

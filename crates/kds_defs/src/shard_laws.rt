@@ -28,9 +28,9 @@ pub fn numbered_shards()
 /// number of open shards whose ranges contain the key.
 pub fn tiled_shards()
     ensures first { (count start : ℕ) → 1 ≤ count → count ≤ 500 → IsTiled (first_shards 0 start (uniform count)) }
-    ensures split { (xs : List ShardState) (shard at start : ℕ) (closing : Closing) → IsSplittable xs shard at
+    ensures split { (xs : List ShardState) (shard hash start : ℕ) (closing : Closing) → IsSplittable xs shard hash
         → IsTiled xs
-        → IsTiled (split_shards shard at closing start xs) }
+        → IsTiled (split_shards shard hash closing start xs) }
     ensures merged { (xs : List ShardState) (shard other start : ℕ) (closing : Closing) → AreMergeable xs shard other
         → IsTiled xs
         → IsTiled (merged_shards shard other closing start xs) }

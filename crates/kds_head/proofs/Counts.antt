@@ -1,4 +1,4 @@
--- A text of 1 to 19 digits denotes a number below 2^64, and the code reads it as this number.
+-- A text of 1 to 19 digits is below 2^64 and is read as its number.
 use Rattle.std.proofs.Common.{sym, Some, None, ◌≡◌, ℕ, ◌^◌, ◌<◌, ◌≤◌, List, length, Bool, true, false, arith, refl}
 use Rattle.std.proofs.Common.{rules}
 use Rattle.std.proofs.lemmas.Grind.{common_steps}
@@ -10,18 +10,16 @@ use Rattle.std.specs.Prelude.{nat_lt}
 use Rattle.kds_base.specs.NumberText.{are_digits, digits_of}
 use Rattle.kds_head.specs.Values.{is_byte_count, byte_count}
 
--- Each byte of the text `text` is a digit.
+-- Each byte of the text is a digit.
 abbrev pub IsDigits : List ℕ → Type 0
 IsDigits text = list_all is_ascii_digit text ≡ true
 
 own : IsNumeralModel IsDigits (digits_value 10)
 own = numerals_by_value IsDigits (search rules)
 
--- A text that states a number of bytes consists of digits, has at least one, and has at most 19.
 pub count_digits : (text : List ℕ) → is_byte_count text ≡ true → IsDigits text × (0 < length text) × (length text ≤ 19)
 count_digits text p = (grind (arith, common_steps), grind (arith, common_steps), grind (arith, common_steps))
 
--- A text of 1 to 19 digits denotes a number below 2^64.
 pub count_small : (text : List ℕ) → is_byte_count text ≡ true → digits_value 10 text < 2 ^ 64
 count_small text p =
     let d = count_digits text p in
@@ -46,11 +44,8 @@ read_is false text e short =
     let none : is_byte_count text ≡ false = grind (arith, common_steps) in
     rw e (sym (no_count text none))
 
--- A text of at most 19 bytes is read by the code (`digits_of`) as the number that it denotes, or isn't read if it
--- denotes none.
 pub counted : (text : List ℕ) → length text ≤ 19 → digits_of 64 text ≡ byte_count text
 counted text short = read_is (are_digits text) text refl short
 
--- A text of more than 19 bytes states no number of bytes.
 pub too_long : (text : List ℕ) → 19 < length text → byte_count text ≡ None
 too_long text long = let none : is_byte_count text ≡ false = grind (arith, common_steps) in no_count text none

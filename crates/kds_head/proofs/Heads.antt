@@ -1,5 +1,4 @@
--- Bytes have one finding at most, a head or a refusal that was found stays when more bytes follow, and a finding is
--- within the limits. A head of few bytes has few headers.
+-- Bytes have one finding, which stays when more follow and is within the limits; short heads have few headers.
 use Rattle.std.proofs.Common.{◌≡◌, ◌≢◌, ℕ, ◌+◌, ◌*◌, ◌<◌, ◌≤◌, ◌⊎◌, List, [], ◌∷◌, ◌++◌, map, length, take, sym, ap}
 use Rattle.std.proofs.Common.{◌∙◌, subst, arith, zero, suc, get_or, refl, inl, inr, codes, Bool, true, false, Result}
 use Rattle.std.proofs.Common.{Ok, Err}
@@ -28,7 +27,6 @@ end_some : (e : LineEnd) → 1 ≤ length (print_end e)
 end_some crlf = omega arith
 end_some lf = omega arith
 
--- A header line has at least three bytes if its name isn't empty.
 field_three : (f : Field) → 0 < length f.name → 3 ≤ length (print_field f)
 field_three f h =
     let whole : length (print_field f) ≡ length f.name + (1 + (length f.raw + length (print_end f.end))) =
@@ -45,12 +43,11 @@ fields_three (f ∷ fields) all =
     + length (flat_map print_field fields) = length-append (print_field f) _ in
     omega (arith, parts, rest, field_three f first.name.0)
 
--- A head has at least two bytes besides its header lines.
 head_fields : (h : RequestHead) → length (flat_map print_field h.fields) + 2 ≤ length (print_request h)
 unfolding print_request
 head_fields h = simp length-append (omega arith)
 
--- If `buf` has at most 3 * `room` + 2 bytes, it has no head with more than `room` headers.
+-- A head of few bytes has few headers.
 pub too_many_bytes : (room : ℕ) (buf : List ℕ) → length buf ≤ 3 * room + 2 → RequestExceeds room buf → ⊥
 too_many_bytes room buf short e =
     let h = e.3 in
@@ -65,7 +62,6 @@ at_most n k e = grind (arith, nat_tests)
 
 -- ---- Bytes have one finding at most
 
--- Bytes that never begin with a head, whatever follows, don't begin with one now.
 pub none_now : (front : List ℕ) → NeverHasRequest front → HasNoRequest front
 none_now front never h rest reads = never [] h rest (reads.0, append-nil front ∙ reads.1)
 
@@ -73,7 +69,6 @@ never_may : (front : List ℕ) → NeverBecomesHead front → MayBecomeRequest f
 never_may front p (inl m) = p.0 m.0 m.1 [] m.2
 never_may front p (inr inside) = p.1 inside
 
--- The bytes `front` have one finding at most (`IsFoundIn`): two findings in them are equal.
 pub at_most_one_in : (front : List ℕ) (found other : Found) → IsFoundIn front found → IsFoundIn front other
     → found ≡ other
 at_most_one_in front found other (inl a) (inl b) = a.2 ∙ ap judged (request_unique front a.0 b.0 _ _ a.1.1 b.1.1).0
@@ -93,8 +88,6 @@ never_more : (front more : List ℕ) → NeverHasRequest front → NeverHasReque
 never_more front more never rest h r reads =
     never (more ++ rest) h r (reads.0, sym (append_assoc front more rest) ∙ reads.1)
 
--- Let `a` with `b` after it be the same bytes as `c` with `d` after it. Then `c` begins with `a`, or `a` begins with
--- `c`. If `a` begins with `c`, then `d` is the rest of `a` with `b` after it.
 cuts : (a b c d : List ℕ) → a ++ b ≡ c ++ d → ((m : List ℕ) × (c ≡ a ++ m))
     ⊎ ((m : List ℕ) × (a ≡ c ++ m) × (m ++ b ≡ d))
 cuts [] b c d e = inl (c, refl)
@@ -109,7 +102,7 @@ cuts (x ∷ a) b (y ∷ c) d e = both (cuts a b c d (cc))
     both (inl p) = inl (p.0, rw (same, p.1) refl)
     both (inr p) = inr (p.0, rw (same, p.1) refl, p.2)
 
--- The shortest head with the given empty lines and method: the target is `/`, and there are no headers.
+-- The shortest head with the given empty lines and method.
 abbrev short_head : List LineEnd → List ℕ → RequestHead
 short_head blank method =
     record { blank = blank; method = method; target = 47 ∷ []; minor = 1; line_end = lf; fields = []; last = lf }
@@ -132,7 +125,6 @@ is_short_head blank method token = record {
   fields = All-nil IsField;
 }
 
--- The bytes of the shortest head after the space that follows its method.
 short_rest : List ℕ
 short_rest = 47 ∷ 32 ∷ codes "HTTP/1.1" ++ 10 ∷ 10 ∷ []
 
@@ -141,7 +133,6 @@ short_printed : (blank : List LineEnd) (method : List ℕ)
 unfolding print_request short_rest
 short_printed blank method = simp append_assoc
 
--- If the bytes `front` followed by `more` may become a request, `front` may become a request.
 pub may_before : (front more : List ℕ) → MayBecomeRequest (front ++ more) → MayBecomeRequest front
 may_before front more (inl m) = inl (more ++ m.0, m.1, (m.2.0, sym (append_assoc front more m.0) ∙ m.2.1))
 may_before front more (inr e) =
@@ -180,8 +171,6 @@ no_room : (front m : List ℕ) → length front ≡ 16384 → length (front ++ m
 no_room front [] e l = refl
 no_room front (x ∷ m) e l = absurd (omega (arith, length-append front (x ∷ m)))
 
--- If a head or a refusal is found in `front`, and `front` and `m` together have at most 16384 bytes, the same is found
--- in `front` followed by `m`.
 pub stays_in : (front m : List ℕ) (found : Found) → length (front ++ m) ≤ 16384 → IsFoundIn front found → found ≢ Need
     → IsFoundIn (front ++ m) found
 stays_in front m found l (inl a) n = inl (a.0, (a.1.0 ++ m, ReadsRequest-append front a.0 a.1.0 m a.1.1), a.2)
@@ -200,7 +189,7 @@ front_grows (suc n) (x ∷ xs) ys = let r = front_grows n xs ys in (r.0, ap (λ 
 front_short : (n : ℕ) (xs : List ℕ) → length (take n xs) ≤ n
 front_short n xs = omega (arith, length-take n xs)
 
--- If a head or a refusal is found in bytes, it is also found when more bytes follow.
+-- A found head or refusal stays when more bytes follow.
 pub stays_found : (bytes more : List ℕ) (found : Found) → IsFound bytes found → found ≢ Need
     → IsFound (bytes ++ more) found
 stays_found bytes more found f n = by_front (front_grows 16384 bytes more)
@@ -214,8 +203,6 @@ stays_found bytes more found f n = by_front (front_grows 16384 bytes more)
 
 -- ---- A finding is within the limits
 
--- The finding for a head of `bytes` bytes: a refusal with a status of the table, or a head of this length whose body
--- isn't longer than a body may be.
 IsLimited : ℕ → Found → Type 0
 IsLimited bytes Need = ⊥
 IsLimited bytes (Refused status) = is_refusal status ≡ true
@@ -267,7 +254,6 @@ front_size : (front : List ℕ) (h : RequestHead) (rest : List ℕ) → front �
     → length (print_request h) ≤ length front
 front_size front h rest e = omega (arith, ap length e, length-append (print_request h) rest)
 
--- What is found in bytes is within the limits.
 pub limits_in : (bytes : List ℕ) (found : Found) → IsFound bytes found → IsWithinLimits bytes found
 limits_in bytes found (inl a) =
     let size = front_size (take HEAD_BYTES bytes) a.0 a.1.0 a.1.1.1 in
@@ -279,7 +265,6 @@ limits_in bytes found (inr (inr c)) =
     subst (λ (f : Found). IsWithinLimits bytes f) (sym c.1)
     (known_open (length (take HEAD_BYTES bytes) == HEAD_BYTES) bytes refl)
 
--- If a call that succeeds returns what is found in `bytes`, this finding is within the limits.
 pub limits : {E : Type 0} (bytes : List ℕ) (r : Result Found E) → IfOk r (IsFound bytes) → IfOk r (IsWithinLimits bytes)
 limits bytes (Ok found) h = limits_in bytes found h
 limits bytes (Err e) h = tt
@@ -291,7 +276,6 @@ method_token = (
   All-cons (λ b. IsTrue (is_token_byte b)) 65 [] refl (All-nil (λ b. IsTrue (is_token_byte b))),
 )
 
--- In no bytes, it is found that more bytes are needed.
 pub empty_need : IsFound [] Need
 empty_need = inr (inr (
   (no_head, inl (print_request least, least, (is_short_head [] (65 ∷ []) method_token, sym (append-nil _)))),

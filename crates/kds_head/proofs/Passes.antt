@@ -1,4 +1,4 @@
--- One scan of all headers finds for each name that the service reads what the definitions say about this name.
+-- One scan of the headers finds what the definitions say about each name that the service reads.
 use Rattle.std.proofs.Common.{◌≡◌, ◌∙◌, ℕ, ◌+◌, List, [], ◌∷◌, Bool, true, false, map, Option, Some, None, refl, sym}
 use Rattle.std.proofs.Common.{ap, subst, arith, codes, inl, inr}
 use Rattle.std.proofs.lemmas.Bool.{cases_Bool}
@@ -67,11 +67,11 @@ only_named : (name : List ℕ) (h : List ℕ × List ℕ) (hs : Headers) → has
 unfolding only_value
 only_named name h hs e = rw (more_one _ _ (count_yes name h hs e), e) refl
 
--- What was seen of the name `name` after the header `header`, by what was seen before it.
+-- What was seen of the name after one more header.
 abbrev step : List ℕ → List ℕ → Seen → HeaderSpan → Seen
 step name front seen header = seen_after seen (has_name name (header_bytes front header)) header.value
 
--- What was seen of the name `name` after all of `headers`, if `seen` was what was seen before them.
+-- What was seen of the name after all of `headers`.
 abbrev pass : List ℕ → List ℕ → Seen → List HeaderSpan → Seen
 pass name front seen headers = fold (step name front) seen headers
 
@@ -133,7 +133,7 @@ seen_all name front (h ∷ hs) =
 
 -- ---- All names together
 
--- The findings after all headers of a list, if they were `found` before this list.
+-- The findings after all headers of the list.
 abbrev read : List ℕ → Findings → List HeaderSpan → Findings
 read front found hs = fold (findings_after front) found hs
 
@@ -165,7 +165,7 @@ or_apart : (a b c : Bool) → ((a || b) || c) ≡ (a || (b || c))
 or_apart true b c = refl
 or_apart false b c = refl
 
--- Whether a header is Connection with the value `close`.
+-- Whether a header is `Connection: close`.
 abbrev says : List ℕ × List ℕ → Bool
 says = has_name_and_value (codes "Connection") (codes "close")
 
@@ -176,7 +176,6 @@ closing front f (h ∷ hs) =
     closing front (findings_after front f h) hs
     ∙ or_apart f.close (says (header_bytes front h)) (list_any says (map (header_bytes front) hs))
 
--- The findings after one scan of all headers are right for these headers (`AreFindings`).
 pub all_found : (front : List ℕ) (hs : List HeaderSpan) (found : Findings) → found ≡ read front no_findings hs
     → AreFindings front (map (header_bytes front) hs) found
 unfolding any_has
@@ -197,40 +196,30 @@ all_found front hs found e = record {
 
 -- ---- The values that the table of checks reads
 
--- If a number isn't above 0, it is 0.
 pub none_is : (n : ℕ) → nat_lt 0 n ≡ false → (n == 0) ≡ true
 none_is n e = grind (arith, nat_tests)
 
--- If a number is above 0, it isn't 0.
 pub some_is : (n : ℕ) → nat_lt 0 n ≡ true → (n == 0) ≡ false
 some_is n e = grind (arith, nat_tests)
 
--- Let `v` be the value of the only header Content-Length, or None if there isn't exactly one such header. If the code
--- reads `v` as the number `n`, or as None, then `n` is the length of the body by the definition (`body_length`).
 pub body_is : (v : Option (List ℕ)) (n : Option ℕ) (hs : Headers) → n ≡ option_and_then byte_count v
     → v ≡ only_value (codes "Content-Length") hs
     → n ≡ body_length hs
 unfolding body_length
 body_is v n hs e s = e ∙ ap (option_and_then byte_count) s
 
--- Let `v` be the value of the only header X-Amz-Target, or None if there isn't exactly one such header. If the code
--- reads `v` as the operation `o`, then `o` is the operation by the definition (`operation`).
 pub operation_is : (v : Option (List ℕ)) (o : List ℕ) (hs : Headers) → o ≡ option_map_or named_operation v []
     → v ≡ only_value (codes "X-Amz-Target") hs
     → o ≡ operation hs
 unfolding operation
 operation_is v o hs e s = e ∙ ap (λ z. option_map_or named_operation z []) s
 
--- Let `v` be the value of the only header Content-Type, or None if there isn't exactly one such header. If the code
--- finds by `v` whether the body is JSON, the result `j` is that of the definition (`says_json`).
 pub json_is : (v : Option (List ℕ)) (j : Bool) (hs : Headers) → j ≡ option_map_or is_json v false
     → v ≡ only_value (codes "Content-Type") hs
     → j ≡ says_json hs
 unfolding says_json
 json_is v j hs e s = e ∙ ap (λ z. option_map_or is_json z false) s
 
--- If the code finds by the minor version and by `said` whether the connection closes, the result `c` is that of the
--- definition (`closes`). The Boolean `said` is true if some header Connection has the value `close`.
 pub close_is : (minor : ℕ) (said c : Bool) (hs : Headers) → c ≡ (minor == 0 || said)
     → said ≡ any_has (codes "Connection") (codes "close") hs
     → c ≡ (minor == 0 || any_has (codes "Connection") (codes "close") hs)

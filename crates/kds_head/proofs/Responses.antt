@@ -1,10 +1,9 @@
--- The parts of a response that the code writes one after another make the bytes of the response.
+-- The parts of a response that the code writes make the bytes of the response.
 use Rattle.std.proofs.Common.{◌≡◌, ℕ, List, [], ◌++◌, Bool, refl, ◌∙◌, codes, length}
 use Rattle.std.specs.Prelude.{decimal}
 use Rattle.std.proofs.lemmas.List.{append_assoc}
 use Rattle.kds_head.specs.Response.{line, reason_phrase, content_type, connection, response_text}
 
--- If eight parts are added behind `t`, one after another, the result is `t` with the eight parts in order after it.
 pub eight : (t a b c d e f g h t1 t2 t3 t4 t5 t6 t7 t8 : List ℕ)
     → t1 ≡ t ++ a → t2 ≡ t1 ++ b → t3 ≡ t2 ++ c → t4 ≡ t3 ++ d → t5 ≡ t4 ++ e → t6 ≡ t5 ++ f → t7 ≡ t6 ++ g
     → t8 ≡ t7 ++ h
@@ -12,8 +11,6 @@ pub eight : (t a b c d e f g h t1 t2 t3 t4 t5 t6 t7 t8 : List ℕ)
 eight t a b c d e f g h t1 t2 t3 t4 t5 t6 t7 t8 e1 e2 e3 e4 e5 e6 e7 e8 =
     rw (e8, e7, e6, e5, e4, e3, e2, e1) (simp append_assoc)
 
--- If seven parts are put before `body`, the last one first, the result is the seven parts in order and `body` after
--- them.
 pub in_front : (a b c d e f g body t1 t2 t3 t4 t5 t6 t7 : List ℕ)
     → t1 ≡ g ++ body → t2 ≡ f ++ t1 → t3 ≡ e ++ t2 → t4 ≡ d ++ t3 → t5 ≡ c ++ t4 → t6 ≡ b ++ t5 → t7 ≡ a ++ t6
     → t7 ≡ a ++ (b ++ (c ++ (d ++ (e ++ (f ++ (g ++ body))))))
@@ -23,8 +20,6 @@ apart : (f m a d e l n b : List ℕ) → f ++ (m ++ (a ++ (d ++ (e ++ (l ++ (n +
     ≡ ((((f ++ m) ++ ((a ++ d) ++ e)) ++ l) ++ n) ++ b
 apart f m a d e l n b = simp append_assoc
 
--- The status line, the headers, the empty line and the body of a response, one after another, are the bytes of the
--- response.
 pub parts : (status : ℕ) (body : List ℕ) (json close : Bool) (first media label digits ending last empty : List ℕ)
     → first ≡ line (codes "HTTP/1.1 " ++ decimal status ++ codes " " ++ reason_phrase status)
     → media ≡ content_type json

@@ -1,4 +1,4 @@
--- The table of checks of a head gives the refusal of the first check that the head fails.
+-- The table of checks gives the refusal of the first check that a head fails.
 use Rattle.std.proofs.Common.{◌≡◌, ℕ, ◌<◌, ◌≤◌, List, Bool, true, false, refl, arith}
 use Rattle.std.proofs.lemmas.Bool.Decides.{nat_tests}
 use Rattle.std.specs.Prelude.{nat_lt}
@@ -6,25 +6,20 @@ use Rattle.kds_head.specs.declared.found.Found.{Found}
 use Rattle.kds_head.specs.declared.found.Found.TheVariants.{Refused, Whole}
 use Rattle.kds_head.specs.Table.{refused◌if◌else◌}
 
--- If the test of a check is true, the table gives the refusal of this check.
 pub stops : (s : ℕ) (b : Bool) (later : Found) → b ≡ true → Refused s ≡ (refused s if b else later)
 unfolding refused◌if◌else◌
 stops s b later e = rw e refl
 
--- If the test of a check is false, the table gives what the checks after it give.
 pub passes : (s : ℕ) (b : Bool) (later x : Found) → b ≡ false → x ≡ later → x ≡ (refused s if b else later)
 unfolding refused◌if◌else◌
 passes s b later x e h = rw e h
 
--- If `n` is `m` and above `k`, the test whether `k` is below `m` is true.
 pub above : (n m k : ℕ) → n ≡ m → k < n → nat_lt k m ≡ true
 above n m k e h = let h' : k < m = rw e at h in grind (arith, nat_tests)
 
--- If `n` is `m` and not above `k`, the test whether `k` is below `m` is false.
 pub not_above : (n m k : ℕ) → n ≡ m → n ≤ k → nat_lt k m ≡ false
 not_above n m k e h = let h' : m ≤ k = rw e at h in grind (arith, nat_tests)
 
--- Two accepted heads with the same length and equal other parts are the same finding.
 pub whole_same : (len b b' : ℕ) (o o' : List ℕ) (j j' c c' : Bool) → b ≡ b' → o ≡ o' → j ≡ j' → c ≡ c'
     → Whole (record { length = len; body = b; operation = o; json = j; close = c })
     ≡ Whole (record { length = len; body = b'; operation = o'; json = j'; close = c' })

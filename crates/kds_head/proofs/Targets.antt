@@ -1,4 +1,4 @@
--- The code's state says that the bytes of a request end inside its target exactly if they do so by the grammar.
+-- The code's state is inside the target exactly if the bytes end there by the grammar.
 use Rattle.std.proofs.Common.{◌≡◌, ℕ, List, [], ◌∷◌, ◌++◌, true, false, refl, sym, ap, ◌∙◌, arith, subst, inl, inr}
 use Rattle.std.proofs.lemmas.Bool.{cases_Bool, eqb-true}
 use Rattle.std.proofs.lemmas.List.{append_assoc}
@@ -10,7 +10,7 @@ use Rattle.kds_head.specs.declared.target.Reached.{Reached}
 use Rattle.kds_head.specs.declared.target.Reached.TheVariants.{Blank, CarriageReturn, Method, Target, Other}
 use Rattle.kds_head.specs.Target.{after_byte}
 
--- The part of a request in which its bytes end after the bytes `bs`, if it was `r` before them.
+-- The part of a request in which its bytes end after `bs`.
 abbrev run : Reached → List ℕ → Reached
 run r bs = fold after_byte r bs
 
@@ -30,7 +30,7 @@ in_target (b ∷ bs) h = elim (cases_Bool (is_uri_byte b)) [
   | inr none ↦ absurd (no_way bs (rw none at h))
 ]
 
--- The bytes `bs` are a method, a space, and zero or more bytes of a target.
+-- The bytes are a method, a space, and perhaps some bytes of a target.
 abbrev MethodThen : List ℕ → Type 0
 MethodThen bs = (m : List ℕ) × (t : List ℕ) × AllPass is_token_byte m × AllPass is_uri_byte t × (bs ≡ m ++ 32 ∷ t)
 
@@ -156,13 +156,10 @@ blank_run [] rest = refl
 blank_run (crlf ∷ ends) rest = blank_run ends rest
 blank_run (lf ∷ ends) rest = blank_run ends rest
 
--- If the bytes end inside the target by the grammar, the state after them is inside the target.
 pub reaches : (bs : List ℕ) → EndsInTarget bs → run Blank bs ≡ Target
 reaches bs e = ap (λ z. run Blank z) (e.5 ∙ append_assoc (print_blank e.0) e.1 (32 ∷ e.2))
     ∙ blank_run e.0 (e.1 ++ 32 ∷ e.2) ∙ start_run e.1 e.2 e.3 e.4
 
--- Let `r` be the state after the bytes `bs`. This state is inside the target exactly if `bs` end inside the target by
--- the grammar.
 pub target_is : (r : Reached) (bs : List ℕ) → r ≡ run Blank bs → ((r ≡ Target) → EndsInTarget bs)
     × (EndsInTarget bs → r ≡ Target)
 target_is r bs e = (λ h. in_blank bs (sym e ∙ h), λ h. e ∙ reaches bs h)

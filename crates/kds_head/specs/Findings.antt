@@ -1,4 +1,4 @@
--- Defines what one scan of the headers of a head finds out about the header names that the service reads.
+-- What one scan of the headers finds out about the names that the service reads.
 use Rattle.std.specs.Prelude.{◌≡◌, ℕ, List, Bool, true, false, ◌||◌, nat_lt, codes, if◌then◌else◌, Option, Some, None}
 use Rattle.httparse.specs.Spans.{header_bytes, span_bytes}
 use Rattle.httparse.specs.declared.spans.Span.{Span}
@@ -8,27 +8,24 @@ use Rattle.kds_head.specs.declared.findings.Seen.TheVariants.{Nowhere, Once, Oft
 use Rattle.kds_head.specs.declared.findings.Findings.{Findings}
 use Rattle.kds_head.specs.Headers.{Headers, has_name, has_name_and_value, count_named, only_value, any_has}
 
--- Whether at least one header has a name, by what was seen of this name.
-abbrev pub is_somewhere : Seen → Bool
+-- Whether at least one header has the name.
+abbrev pub is_somewhere : (seen : Seen) → Bool
 is_somewhere Nowhere = false
 is_somewhere (Once value) = true
 is_somewhere Often = true
 
--- By what was seen of a name: the value of the header with this name if exactly one header has the name, and otherwise
--- None. The value is a range of the bytes `front`.
-abbrev pub value_in : List ℕ → Seen → Option (List ℕ)
+-- The value of the only header with the name, or None if none or several have it.
+abbrev pub value_in : (front : List ℕ) (seen : Seen) → Option (List ℕ)
 value_in front Nowhere = None
 value_in front (Once value) = Some (span_bytes front value)
 value_in front Often = None
 
--- What was seen of the name `name` (`seen`) is right for `headers`. `seen` says whether some header has this name, and
--- has the header's value if exactly one header has the name.
+-- What was seen of the name is right for the headers.
 pub record IsSeen (name front : List ℕ) (headers : Headers) (seen : Seen) : Type 0 where
   pub some : is_somewhere seen ≡ nat_lt 0 (count_named name headers)
   pub value : value_in front seen ≡ only_value name headers
 
--- The findings `found` are right for `headers`: what was seen of the four names that the service reads (`IsSeen`), and
--- whether some header Connection has the value `close`.
+-- What was seen of the four names, and of `Connection: close`, is right for the headers.
 pub record AreFindings (front : List ℕ) (headers : Headers) (found : Findings) : Type 0 where
   pub encoding : IsSeen (codes "Transfer-Encoding") front headers found.encoding
   pub content_length : IsSeen (codes "Content-Length") front headers found.content_length
@@ -38,20 +35,18 @@ pub record AreFindings (front : List ℕ) (headers : Headers) (found : Findings)
 
 -- ---- One more header
 
--- What was seen of a name after one more header with this name, which has the value `value`.
-abbrev pub one_more : Seen → Span → Seen
+-- What was seen of a name after one more header with this name.
+abbrev pub one_more : (seen : Seen) (value : Span) → Seen
 one_more Nowhere value = Once value
 one_more (Once first) value = Often
 one_more Often value = Often
 
--- What was seen of a name after one more header, which has the value `value`. The Boolean `named` is true if this
--- header has the name.
-abbrev pub seen_after : Seen → Bool → Span → Seen
+-- What was seen of a name after one more header, which has this name if `named`.
+abbrev pub seen_after : (seen : Seen) (named : Bool) (value : Span) → Seen
 seen_after seen named value = if named then one_more seen value else seen
 
--- The findings after the header `header`, which comes right after the headers of `found`. The name and the value of the
--- header are ranges of the bytes `front`.
-abbrev pub findings_after : List ℕ → Findings → HeaderSpan → Findings
+-- The findings after one more header; its name and value are ranges of `front`.
+abbrev pub findings_after : (front : List ℕ) (found : Findings) (header : HeaderSpan) → Findings
 findings_after front found header = record {
   encoding = seen_after found.encoding (has_name (codes "Transfer-Encoding") (header_bytes front header)) header.value;
   content_length = seen_after found.content_length (has_name (codes "Content-Length") (header_bytes front header))
@@ -61,7 +56,7 @@ findings_after front found header = record {
   close = found.close || has_name_and_value (codes "Connection") (codes "close") (header_bytes front header);
 }
 
--- The findings before the first header: no name was seen.
+-- The findings before the first header.
 abbrev pub no_findings : Findings
 no_findings = record {
   encoding = Nowhere;

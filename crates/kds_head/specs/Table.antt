@@ -1,4 +1,4 @@
--- Defines what a whole head leads to: a refusal, by the first of several checks that it fails, or acceptance.
+-- What a whole head leads to: the refusal of the first check that it fails, or acceptance.
 use Rattle.std.specs.Prelude.{ℕ, List, Bool, ◌==◌, not, nat_lt, length, codes, map, slice_range, if◌then◌else◌, is_none}
 use Rattle.std.specs.Prelude.{unwrap_or}
 use Rattle.std.specs.Str.{bytes_eq}
@@ -12,15 +12,13 @@ use Rattle.kds_head.specs.declared.found.Found.{Found}
 use Rattle.kds_head.specs.declared.found.Found.TheVariants.{Refused, Whole}
 use Rattle.kds_head.specs.declared.numbers.TheConstants.{HEADERS, BODY_BYTES}
 
--- One check of a table: the refusal with `status` if `test` is true, and otherwise what the checks after it give, which
--- is `later`.
+-- One check of a table: the refusal with `status` if `test` is true, otherwise the checks after it.
 infixr 1 refused◌if◌else◌
-unfoldable pub refused◌if◌else◌ : ℕ → Bool → Found → Found
+unfoldable pub refused◌if◌else◌ : (status : ℕ) (test : Bool) (later : Found) → Found
 refused status if test else later = if test then Refused status else later
 
--- What a head of `bytes` bytes leads to, by its method, its target, the minor version of HTTP and its headers. The
--- first check that the head fails gives the status of the refusal. If the head fails none, it is accepted (`Whole`).
-abbrev pub judged_by : ℕ → List ℕ → List ℕ → ℕ → Headers → Found
+-- What a head of `bytes` bytes leads to: the refusal of the first check that it fails, or acceptance.
+abbrev pub judged_by : (bytes : ℕ) (method target : List ℕ) (minor : ℕ) (headers : Headers) → Found
 judged_by bytes method target minor headers =
     refused 400 if nat_lt HEADERS (length headers) else
     refused 501 if nat_lt 0 (count_named (codes "Transfer-Encoding") headers) else
@@ -37,13 +35,12 @@ judged_by bytes method target minor headers =
       close = closes minor headers;
     })
 
--- What a head in the bytes `front` leads to. The parts of the head are the ranges `spans` of `front`, and the names and
--- values of its headers are the ranges `headers` of `front`.
-abbrev pub judged_in : List ℕ → List HeaderSpan → RequestSpans → Found
+-- What a head leads to whose parts and headers are ranges of `front`.
+abbrev pub judged_in : (front : List ℕ) (headers : List HeaderSpan) (spans : RequestSpans) → Found
 judged_in front headers spans =
     judged_by spans.len (slice_range front spans.method.start spans.method.end)
     (slice_range front spans.path.start spans.path.end) spans.version (map (header_bytes front) headers)
 
--- What the whole head `h` of the grammar leads to.
-abbrev pub judged : RequestHead → Found
+-- The refusal of the first check that a whole head fails, or what the head says of the request.
+abbrev pub judged : (h : RequestHead) → Found
 judged h = judged_by (length (print_request h)) h.method h.target h.minor (map name_and_value h.fields)

@@ -1,13 +1,11 @@
--- Defines in which part of a request its bytes end: among the empty lines before the request, in the method, in the
--- target, or elsewhere (RFC 9112, section 3).
+-- In which part of a request its bytes end (RFC 9112, section 3).
 use Rattle.std.specs.Prelude.{ℕ, ◌==◌, if◌then◌else◌}
 use Rattle.httparse.specs.Grammar.{is_token_byte, is_uri_byte}
 use Rattle.kds_head.specs.declared.target.Reached.{Reached}
 use Rattle.kds_head.specs.declared.target.Reached.TheVariants.{Blank, CarriageReturn, Method, Target, Other}
 
--- The part of a request in which its bytes end once the byte `b` has been added. The first argument is the part in
--- which the bytes ended before.
-abbrev pub after_byte : Reached → ℕ → Reached
+-- In which part of a request its bytes end after the byte `b`, if they ended in `reached` before.
+abbrev pub after_byte : (reached : Reached) (b : ℕ) → Reached
 after_byte Blank b = if b == 10 then Blank else if b
     == 13 then CarriageReturn else if is_token_byte b then Method else Other
 after_byte CarriageReturn b = if b == 10 then Blank else Other

@@ -1,4 +1,4 @@
--- The code's tests whether a body is UTF-8, JSON and an object give what the definitions say.
+-- The code's tests whether a body is UTF-8, JSON and an object agree with the definitions.
 use Rattle.std.proofs.Common.{◌≡◌, ℕ, List, inl, inr, sym, true, false, Some, None, Ok, Err, [], refl}
 use Rattle.std.specs.Option.{is_some}
 use Rattle.std.specs.Str.{IsUtf8, is_utf8}
@@ -11,24 +11,20 @@ use Rattle.kds_json_members.specs.declared.problem.FaultKind.TheVariants.{Serial
 use Rattle.kds_json_members.specs.Results.{fault_of}
 use Rattle.kds_json.specs.Asked.{if_object, read_body}
 
--- If the test says that the value `d` is an object, `if_object` gives `d`.
 pub object_is : (d : Data) → is_some (as_object d) ≡ true → if_object (Some d) ≡ Ok d
 object_is (object ms) h = refl
 object_is _ h = cc
 
--- If the test says that the value `d` isn't an object, `if_object` gives the fault Serialization.
 pub other_is : (d : Data) → is_some (as_object d) ≡ false → if_object (Some d) ≡ Err (fault_of Serialization [])
 other_is (object ms) h = cc
 other_is _ h = refl
 
 pub ruleset objects = (object_is, other_is)
 
--- If a body is UTF-8 and reads as the JSON value `d`, `read_body` gives `d`.
 pub read_text : (body : List ℕ) (d : Data) → IsUtf8 body → read body ≡ Some d → Some d ≡ read_body body
 unfolding read_body
 read_text body d u e = rw (is_utf8-from_IsUtf8 body u) (sym e)
 
--- If a body isn't UTF-8, or doesn't read as JSON, `read_body` gives None.
 pub read_nothing : (body : List ℕ) → (IsUtf8 body → read body ≡ None) → None ≡ read_body body
 unfolding read_body
 read_nothing body none = elim (cases_Bool (is_utf8 body)) [

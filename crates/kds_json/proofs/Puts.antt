@@ -1,5 +1,4 @@
--- If a PutRecord or PutRecords has no fault, its command is one that a request may ask for (`IsRequest`). If it has a
--- fault, the name of the member in the fault is valid UTF-8.
+-- PutRecord and PutRecords ask for an allowed command, or their fault names a member in valid UTF-8.
 use Rattle.std.proofs.Common.{◌≡◌, ℕ, ◌+◌, ◌≤◌, ◌<◌, ◌^◌, ◌++◌, List, length, decimal, nat_le, Result, Ok, Err, IfSome}
 use Rattle.std.proofs.Common.{codes, refl, arith, is_some}
 use Rattle.std.specs.List.{AllByRecursion, sum_by}
@@ -37,8 +36,6 @@ item_reads d =
     (hash_reads key (codes "ExplicitHashKey") d refl)
     (λ hash is_hash. record { key = is_key; hash = is_hash; bytes = is_short })))
 
--- If a PutRecord has no fault, its command is one that a request may ask for. If it has a fault, the name of the member
--- in the fault is valid UTF-8.
 pub put_reads : (d : Data) → Reads IsRequest (put_record d)
 unfolding put_record
 put_reads d =
@@ -47,7 +44,7 @@ put_reads d =
 
 -- ---- PutRecords
 
--- The array `ds` has at least one item and at most `MANY_ITEMS`.
+-- The array has from 1 to `MANY_ITEMS` items.
 abbrev pub IsCounted : Items → Type 0
 IsCounted ds = (1 ≤ count ds) × (count ds ≤ MANY_ITEMS)
 
@@ -73,7 +70,7 @@ record_reads index d small =
     either_reads IsItem (is_some (as_object d)) _ _ (in_record_reads index (item_of d) small (item_reads d))
     (record_name_text index small)
 
--- There are as many records `xs` as items in the array `ds`, and each of them may be put (`IsItem`).
+-- The records are as many as the items, and each may be put.
 abbrev AreRead : Items → List NewItem → Type 0
 AreRead ds xs = AllByRecursion IsItem xs × (length xs ≡ count ds)
 
@@ -95,8 +92,6 @@ within_are ds items counts are =
       bytes = grind (arith, nat_tests);
     })
 
--- If a PutRecords has no fault, its command is one that a request may ask for. If it has a fault, the name of the
--- member in the fault is valid UTF-8.
 pub many_reads : (d : Data) → Reads IsRequest (put_records d)
 unfolding put_records
 many_reads d =

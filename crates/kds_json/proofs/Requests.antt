@@ -1,5 +1,4 @@
--- If a request has no fault, its command is one that a request may ask for (`IsRequest`). If it has a fault, the name
--- of the member in the fault is valid UTF-8.
+-- A request without fault asks for an allowed command, and a fault names a member in valid UTF-8.
 use Rattle.std.proofs.Common.{◌≡◌, ℕ, List, Bool, Option, Some, None, Ok, Err, true, false, codes, arith, is_some, refl}
 use Rattle.std.specs.Str.{IsUtf8, bytes_eq}
 use Rattle.std.proofs.lemmas.Str.{IsUtf8-nil}
@@ -80,7 +79,7 @@ enforce_reads : (d : Data) → Reads IsRequest (enforce_limits d)
 unfolding enforce_limits
 enforce_reads d =
     names d _ (λ name is_named.
-    takes _ (codes "Enforce") d _ refl (λ on. (is_named, refl)))
+    takes _ (codes "Enforce") d _ refl (λ is_on. (is_named, refl)))
 
 at_reads : (d : Data) → Reads (Anything Start) (start_at d)
 unfolding start_at
@@ -118,7 +117,7 @@ iterator_reads d =
     names d _ (λ name is_named.
     takes _ (codes "ShardId") d _ refl (λ shard.
     takes as_str (codes "ShardIteratorType") d _ refl (λ kind.
-    then_reads (Anything Start) IsRequest (start_of kind d) _ (start_reads kind d) (λ from _. (is_named, refl)))))
+    then_reads (Anything Start) IsRequest (start_of kind d) _ (start_reads kind d) (λ is_from _. (is_named, refl)))))
 
 records_reads : (d : Data) → Reads IsRequest (get_records d)
 unfolding get_records
@@ -131,7 +130,7 @@ unfolding split_shard
 split_reads d =
     names d _ (λ name is_named.
     takes _ (codes "ShardToSplit") d _ refl (λ shard.
-    asks IsHash hash_in (codes "NewStartingHashKey") d _ refl hash_is (λ at is_hash. ((is_named, is_hash), refl))))
+    asks IsHash hash_in (codes "NewStartingHashKey") d _ refl hash_is (λ is_at is_hash. ((is_named, is_hash), refl))))
 
 merge_reads : (d : Data) → Reads IsRequest (merge_shards d)
 unfolding merge_shards
@@ -165,7 +164,7 @@ unfolding list_shards
 listing_reads d = either_reads IsRequest (is_some (member_of (codes "NextToken") d)) _ _ (token_listing_reads d)
     (start_listing_reads d)
 
-members_read : (what : Operation) (d : Data) → Reads IsRequest (members_of what d)
+members_read : (operation : Operation) (d : Data) → Reads IsRequest (members_of operation d)
 members_read op.CreateStream d = create_reads d
 members_read op.DeleteStream d = delete_reads d
 members_read op.ListStreams d = names_read d
@@ -194,14 +193,13 @@ unfolding asked
 asked_reads operation body =
     then_reads (Anything Operation) IsRequest (some_or _ _ (operation_named operation)) _
     (some_or_reads (Anything Operation) _ _ (operation_named operation) IsUtf8-nil
-    (anything (operation_named operation))) (λ what _.
+    (anything (operation_named operation))) (λ command _.
     then_reads (Anything Data) IsRequest (object_of body) _ (object_reads (read_body body))
-    (λ d _. members_read what d))
+    (λ d _. members_read command d))
 
--- The command that an operation name and a body ask for is one that a request may ask for (`IsRequest`).
-pub asked_request : (operation body : List ℕ) (what : Command) → asked operation body ≡ Ok what → IsRequest what
-asked_request operation body what e = let is = rw e at (asked_reads operation body) in is
+pub asked_request : (operation body : List ℕ) (command : Command) → asked operation body ≡ Ok command
+    → IsRequest command
+asked_request operation body command e = let is = rw e at (asked_reads operation body) in is
 
--- The name of the member in the fault of a request is valid UTF-8.
 pub fault_text : (operation body : List ℕ) (f : Fault) → asked operation body ≡ Err f → IsUtf8 f.member
 fault_text operation body f e = let text = rw e at (asked_reads operation body) in text

@@ -1,4 +1,4 @@
--- Defines the command that the name of an operation and the body of a request ask for, or the request's first fault.
+-- The command that a request asks for by its operation's name and its body, or its first fault.
 use Rattle.std.specs.Prelude.{◌≡◌, ℕ, List, [], codes, true, false, if◌then◌else◌, Option, Some, None, Result, Ok, Err}
 use Rattle.std.specs.Str.{bytes_eq, is_utf8}
 use Rattle.serde_json.specs.Data.{Data, object}
@@ -16,22 +16,21 @@ use Rattle.kds_json.specs.Operations.{keep, update_shard_count, enforce_limits, 
 use Rattle.kds_json.specs.Operations.{get_records, split_shard, merge_shards, list_shards}
 use Rattle.kds_json.specs.Many.{put_records}
 
--- The JSON value that `body` has, or None if `body` isn't UTF-8 or isn't JSON (RFC 8259).
-unfoldable pub read_body : List ℕ → Option Data
+-- The JSON value in a body, or None if it isn't UTF-8 or JSON (RFC 8259).
+unfoldable pub read_body : (body : List ℕ) → Option Data
 read_body body = if is_utf8 body then read body else None
 
--- The JSON value if it is an object, and otherwise the fault Serialization. None stands for a body that isn't JSON.
-abbrev pub if_object : Option Data → Result Data Fault
+-- The value if it is an object, otherwise the fault Serialization; None is a body that isn't JSON.
+abbrev pub if_object : (body : Option Data) → Result Data Fault
 if_object (Some (object ms)) = Ok (object ms)
 if_object _ = Err (fault_of Serialization [])
 
--- The JSON object that `body` has, or the fault Serialization if `body` isn't JSON or isn't an object.
-abbrev pub object_of : List ℕ → Result Data Fault
+-- The JSON object in a body, or the fault Serialization.
+abbrev pub object_of : (body : List ℕ) → Result Data Fault
 object_of body = if_object (read_body body)
 
--- The operation with the name `name`, if it is one of the four that change a setting or the shard count of a stream,
--- and otherwise None.
-abbrev pub last_four_named : List ℕ → Option Operation
+-- The operation with the name, among the last four.
+abbrev pub last_four_named : (name : List ℕ) → Option Operation
 last_four_named name =
     if bytes_eq name (codes "IncreaseStreamRetentionPeriod") then Some op.IncreaseRetention
     else if bytes_eq name (codes "DecreaseStreamRetentionPeriod") then Some op.DecreaseRetention
@@ -39,9 +38,8 @@ last_four_named name =
     else if bytes_eq name (codes "LocalEnforceLimits") then Some op.EnforceLimits
     else None
 
--- The operation with the name `name`, if it is PutRecord, PutRecords, SplitShard or MergeShards. If `name` is none of
--- these four names, the result is that of `last_four_named`.
-abbrev pub last_eight_named : List ℕ → Option Operation
+-- The operation with the name, among the last eight.
+abbrev pub last_eight_named : (name : List ℕ) → Option Operation
 last_eight_named name =
     if bytes_eq name (codes "PutRecord") then Some op.PutRecord
     else if bytes_eq name (codes "PutRecords") then Some op.PutRecords
@@ -49,9 +47,8 @@ last_eight_named name =
     else if bytes_eq name (codes "MergeShards") then Some op.MergeShards
     else last_four_named name
 
--- The operation with the name `name`, if it is DescribeStreamSummary, ListShards, GetShardIterator or GetRecords. If
--- `name` is none of these four names, the result is that of `last_eight_named`.
-abbrev pub last_twelve_named : List ℕ → Option Operation
+-- The operation with the name, among the last twelve.
+abbrev pub last_twelve_named : (name : List ℕ) → Option Operation
 last_twelve_named name =
     if bytes_eq name (codes "DescribeStreamSummary") then Some op.DescribeStreamSummary
     else if bytes_eq name (codes "ListShards") then Some op.ListShards
@@ -59,9 +56,8 @@ last_twelve_named name =
     else if bytes_eq name (codes "GetRecords") then Some op.GetRecords
     else last_eight_named name
 
--- The operation with the name `name`, or None if there is no such operation (Kinesis API Reference, Actions;
--- LocalEnforceLimits is this project's own). The code compares the name in four functions, and so do these definitions.
-abbrev pub operation_named : List ℕ → Option Operation
+-- The operation with the name (Kinesis API Reference, Actions; LocalEnforceLimits is this project's own).
+abbrev pub operation_named : (name : List ℕ) → Option Operation
 operation_named name =
     if bytes_eq name (codes "CreateStream") then Some op.CreateStream
     else if bytes_eq name (codes "DeleteStream") then Some op.DeleteStream
@@ -69,9 +65,8 @@ operation_named name =
     else if bytes_eq name (codes "DescribeStream") then Some op.DescribeStream
     else last_twelve_named name
 
--- The command that the members of the object `d` ask for in a request for this operation, or the first fault of these
--- members.
-abbrev pub members_of : Operation → Data → Result Command Fault
+-- The command that the members ask for in a request for this operation, or their first fault.
+abbrev pub members_of : (operation : Operation) (d : Data) → Result Command Fault
 members_of op.CreateStream d = create_stream d
 members_of op.DeleteStream d = delete_stream d
 members_of op.ListStreams d = list_streams d
@@ -89,16 +84,13 @@ members_of op.DecreaseRetention d = keep false d
 members_of op.UpdateShardCount d = update_shard_count d
 members_of op.EnforceLimits d = enforce_limits d
 
--- The command that the operation name `operation` and the body `body` ask for, or the first fault. First the name is
--- looked up (Unknown if no operation has it), then the body must be a JSON object (Serialization), and then its members
--- are read.
-unfoldable pub asked : List ℕ → List ℕ → Result Command Fault
+-- The command asked for, or the first fault: of the name (Unknown), the body (Serialization), the members.
+unfoldable pub asked : (operation body : List ℕ) → Result Command Fault
 asked operation body = do
-  what ← some_or Unknown [] (operation_named operation)
+  command ← some_or Unknown [] (operation_named operation)
   d ← object_of body
-  members_of what d
+  members_of command d
 
--- The command `what` is one that a request may ask for: its numbers and texts are within the ranges of the API, and it
--- is a command of the stream service, not one on leases.
-abbrev pub IsRequest : Command → Type 0
-IsRequest what = IsLawfulCommand what × (is_service what ≡ true)
+-- A request may ask for the command: it is within the API's ranges, and isn't about leases.
+abbrev pub IsRequest : (command : Command) → Type 0
+IsRequest command = IsLawfulCommand command × (is_service command ≡ true)

@@ -110,5 +110,5 @@ pub fn ask(alloc: Global, operation: &[u8], body: &[u8]) -> Result<Result<Comman
 /// States that the command of any request can be applied as a turn (a command with a sender and a time), because its
 /// arguments meet the preconditions of a turn. The command is for the stream service, not for the lease table.
 pub fn asks_lawfully()
-    ensures { (operation body : List ℕ) (what : Command) → asked operation body ≡ Ok what → IsRequest what }
+    ensures { (operation body : List ℕ) (command : Command) → asked operation body ≡ Ok command → IsRequest command }
 {}

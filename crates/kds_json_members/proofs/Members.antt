@@ -1,6 +1,4 @@
--- The value that each kind of member is read as has the property of this kind: it is a stream's name, a number in its
--- range, a partition key, a payload that fits, or a hash key. If a member has a fault, the member's name in the fault
--- is valid UTF-8.
+-- What each kind of member is read as has the kind's property, and names in faults are valid UTF-8.
 use Rattle.std.proofs.Common.{◌≡◌, ℕ, ◌+◌, ◌≤◌, ◌<◌, ◌^◌, List, [], ◌∷◌, length, Bool, true, false, nat_le, nat_lt}
 use Rattle.std.proofs.Common.{◌&&◌, Option, Some, None, option_map}
 use Rattle.std.proofs.Common.{option_and_then, Result, Ok, Err, IfSome, if◌then◌else◌, refl, arith}
@@ -33,8 +31,7 @@ use Rattle.kds_json_members.proofs.Digests.{hash_fits}
 
 -- ---- Steps that give a value or a fault
 
--- If the step `r` gives a value, `P` holds of this value. If the step gives a fault, the name of the member in the
--- fault is valid UTF-8.
+-- `P` holds of the step's value, or the name in its fault is valid UTF-8.
 abbrev pub Reads : {A : Type 0} → (A → Type 0) → Result A Fault → Type 0
 Reads P r = MatchResult r P (λ f. IsUtf8 f.member)
 
@@ -42,42 +39,32 @@ Reads P r = MatchResult r P (λ f. IsUtf8 f.member)
 abbrev pub Anything : (A : Type 0) → A → Type 0
 Anything A x = Unit {0}
 
--- Let `Reads P` hold of the step `r`, and let `Reads Q` hold of the step `f` after each value with the property `P`.
--- Then `Reads Q` holds of both steps together.
 pub then_reads : {A B : Type 0} (P : A → Type 0) (Q : B → Type 0) (r : Result A Fault) (f : A → Result B Fault)
     → Reads P r
     → ((x : A) → P x → Reads Q (f x)) → Reads Q (r >>= f)
 then_reads P Q (Ok x) f h k = k x h
 then_reads P Q (Err e) f h k = h
 
--- If `P` holds of the value that the option `o` has, it holds of the value that the step `some_or` takes from the
--- option. If there is no value, the name in the fault must be valid UTF-8.
 pub some_or_reads : {A : Type 0} (P : A → Type 0) (kind : FaultKind) (name : List ℕ) (o : Option A) → IsUtf8 name
     → IfSome o P
     → Reads P (some_or kind name o)
 some_or_reads P kind name (Some x) text h = h
 some_or_reads P kind name None text h = text
 
--- If `Reads P` holds of two steps, it holds of the one that a Bool chooses.
 pub either_reads : {A : Type 0} (P : A → Type 0) (b : Bool) (x y : Result A Fault) → Reads P x → Reads P y
     → Reads P (if b then x else y)
 either_reads P true x y h k = h
 either_reads P false x y h k = k
 
--- Any value of an option has the property that every value has.
 pub anything : {A : Type 0} (o : Option A) → IfSome o (Anything A)
 anything (Some x) = tt
 anything None = tt
 
--- If `P` holds of each value that `f` gives, it holds of the value that `f` gives for the value of an option. If either
--- value is missing, nothing is claimed.
 pub and_then_has : {A B : Type 0} (P : B → Type 0) (f : A → Option B) (o : Option A) → ((x : A) → IfSome (f x) P)
     → IfSome (option_and_then f o) P
 and_then_has P f (Some x) h = h x
 and_then_has P f None h = tt
 
--- If `P` holds of `x` when the Bool is true, it holds of the value of the option that has `x` only when the Bool is
--- true.
 pub kept_if : {A : Type 0} (P : A → Type 0) (b : Bool) (x : A) → (b ≡ true → P x)
     → IfSome (if b then Some x else None) P
 kept_if P true x h = h refl
@@ -85,35 +72,29 @@ kept_if P false x h = tt
 
 -- ---- The value of a member, by its kind
 
--- If `P` holds of what `f` makes of the value of an option, it holds of the value of the option that `f` makes.
 pub map_has : {A B : Type 0} (P : B → Type 0) (f : A → B) (o : Option A) → IfSome o (λ x. P (f x))
     → IfSome (option_map f o) P
 map_has P f (Some x) h = h
 map_has P f None h = tt
 
--- A value that is read as the name of a stream is a name of a stream (`IsName`).
 pub name_is : (x : Data) → IfSome (name_in x) IsName
 name_is x = and_then_has IsName name_of (as_str x) (λ text. kept_if IsName (is_name text) text (λ h. h))
 
--- A value that is read as the name of a stream for an optional member is a name of a stream.
 pub some_name_is : (x : Data) → IfSome (some_name_in x) IsNameIfThere
 some_name_is x = map_has IsNameIfThere Some (name_in x) (name_is x)
 
--- The number `n` is from `low` to `high`, both included.
+-- The number is from `low` to `high`, both included.
 abbrev pub IsWithin : ℕ → ℕ → ℕ → Type 0
 IsWithin low high n = (low ≤ n) × (n ≤ high)
 
--- If both tests of the range are true, the number `n` is from `low` to `high`.
 pub in_range : (low high n : ℕ) → (nat_le low n && nat_le n high) ≡ true → IsWithin low high n
 in_range low high n h = grind (arith, nat_tests)
 
--- A value that is read as a number from `low` to `high` is a number in this range.
 pub number_is : (low high : ℕ) (x : Data) → IfSome (number_in low high x) (IsWithin low high)
 number_is low high x =
     and_then_has (IsWithin low high) (within low high) (option_and_then as_u64 (as_number x))
     (λ n. kept_if (IsWithin low high) (nat_le low n && nat_le n high) n (in_range low high n))
 
--- If the test `is_partition_key` is true, the text is a partition key.
 pub key_from_test : (text : List ℕ) → is_partition_key text ≡ true → IsPartitionKey text
 key_from_test text h = record {
   text = IsUtf8-from_is_utf8 text (grind (arith, nat_tests));
@@ -121,33 +102,29 @@ key_from_test text h = record {
   few = grind (arith, nat_tests);
 }
 
--- A value that is read as a partition key is a partition key (`IsPartitionKey`).
 pub key_is : (x : Data) → IfSome (key_in x) IsPartitionKey
 key_is x =
     and_then_has IsPartitionKey key_of (as_str x)
     (λ text. kept_if IsPartitionKey (is_partition_key text) text (key_from_test text))
 
--- The payload `bytes` and its partition key, which has `key_bytes` bytes, have at most RECORD_BYTES bytes together.
+-- The payload and its key have at most RECORD_BYTES bytes together.
 abbrev pub IsShort : ℕ → List ℕ → Type 0
 IsShort key_bytes bytes = length bytes + key_bytes ≤ RECORD_BYTES
 
--- A value that is read as the payload of a record with a key of `key_bytes` bytes fits into a record (`IsShort`).
 pub blob_is : (key_bytes : ℕ) (x : Data) → IfSome (blob_in key_bytes x) (IsShort key_bytes)
 blob_is key_bytes x =
     and_then_has (IsShort key_bytes) (blob_of key_bytes) (as_str x)
     (λ text. and_then_has (IsShort key_bytes) (fitting key_bytes) (decoded_of standard text)
     (λ b. kept_if (IsShort key_bytes) (nat_le (length b + key_bytes) RECORD_BYTES) b (λ h. grind (arith, nat_tests))))
 
--- The number `n` is a hash key: it is below 2^128.
+-- The number is a hash key: below 2^128.
 abbrev pub IsHash : ℕ → Type 0
 IsHash n = n < 2 ^ 128
 
--- If the test of a decimal text for a hash key is true, its number is a hash key.
 pub hash_from_test : (text : List ℕ) → (is_plain text && nat_lt (digits_value 10 text) (2 ^ 128)) ≡ true
     → IsHash (digits_value 10 text)
 hash_from_test text h = grind (arith, nat_tests)
 
--- A value that is read as a hash key is below 2^128 (`IsHash`).
 pub hash_is : (x : Data) → IfSome (hash_in x) IsHash
 hash_is x =
     and_then_has IsHash (number_of 128) (as_str x)
@@ -156,7 +133,7 @@ hash_is x =
 
 -- ---- The members of a request
 
--- Each byte of the name `name` is below 128. This is so for each member that requests have, as `refl` shows.
+-- Each byte of the name is ASCII, as in every member of requests.
 abbrev pub IsPlain : List ℕ → Type 0
 IsPlain name = list_all (λ b. nat_lt b 128) name ≡ true
 
@@ -166,11 +143,9 @@ plain_bytes (b ∷ name) h =
     IsAscii-cons b name (ltb-true b 128 (both_left (nat_lt b 128) (list_all (λ c. nat_lt c 128) name) h))
     (plain_bytes name (both_right (nat_lt b 128) (list_all (λ c. nat_lt c 128) name) h))
 
--- A name whose bytes are all below 128 is valid UTF-8.
 pub plain_text : (name : List ℕ) → IsPlain name → IsUtf8 name
 plain_text name plain = IsUtf8-from_ascii name (plain_bytes name plain)
 
--- If `P` holds of each value that `reads` gives, it holds of the value of the required member `name`.
 pub required_reads : {A : Type 0} (P : A → Type 0) (reads : Data → Option A) (name : List ℕ) (d : Data) → IsPlain name
     → ((x : Data) → IfSome (reads x) P) → Reads P (required_at reads name d)
 unfolding required_at
@@ -185,8 +160,6 @@ value_reads : {A : Type 0} (P : A → Type 0) (default : A) (reads : Data → Op
 value_reads P default reads name None text is h = is
 value_reads P default reads name (Some x) text is h = some_or_reads P _ name (reads x) text (h x)
 
--- If `P` holds of each value that `reads` gives, and of the default, it holds of the value of the optional member
--- `name`.
 pub optional_reads : {A : Type 0} (P : A → Type 0) (default : A) (reads : Data → Option A) (name : List ℕ) (d : Data)
     → IsPlain name → P default
     → ((x : Data) → IfSome (reads x) P) → Reads P (optional_at default reads name d)
@@ -198,11 +171,9 @@ absent_of_reads : (name : List ℕ) (o : Option Data) → IsUtf8 name → Reads 
 absent_of_reads name (Some x) text = text
 absent_of_reads name None text = tt
 
--- If a member that must be absent is given, the name of the member in the fault is valid UTF-8.
 pub absent_reads : (name : List ℕ) (d : Data) → IsPlain name → Reads (Anything ⊤) (absent_at name d)
 absent_reads name d plain = absent_of_reads name (member_of name d) (plain_text name plain)
 
--- If a member with a token has a fault, the name of the member in the fault is valid UTF-8.
 pub token_reads : {A : Type 0} (stands_for : List ℕ → Option A) (name : List ℕ) (d : Data) → IsPlain name
     → Reads (Anything A) (token_at stands_for name d)
 unfolding token_at
@@ -211,8 +182,6 @@ token_reads {A} stands_for name d plain =
     (required_reads (Anything (List ℕ)) as_str name d plain (λ x. anything (as_str x)))
     (λ text _. some_or_reads (Anything A) _ name (stands_for text) (plain_text name plain) (anything (stands_for text)))
 
--- The hash key of a record is below 2^128 (`IsHash`), whether it is given in the member `name` or made from the
--- partition key.
 pub hash_reads : (key name : List ℕ) (d : Data) → IsPlain name → Reads IsHash (hash_at key name d)
 unfolding hash_at
 hash_reads key name d plain = optional_reads IsHash (key_hash key) hash_in name d plain (hash_fits key) hash_is

@@ -1,11 +1,9 @@
--- Null isn't a string. So where a string is required, it doesn't matter that a member that is null counts as absent.
+-- Null is no string, so a required string is the same whether or not null counts as absent.
 use Rattle.std.proofs.Common.{◌≡◌, Option, Some, None, option_and_then, refl}
 use Rattle.serde_json.specs.Data.{Data, null, boolean, number, string, array, object}
 use Rattle.serde_json.specs.Find.{as_str}
 use Rattle.kds_json_members.specs.Member.{unless_null}
 
--- The string that an optional JSON value is, or None if it is no string, is the same whether or not null counts as
--- absent.
 pub text_unless_null : (o : Option Data) → option_and_then as_str (option_and_then unless_null o)
     ≡ option_and_then as_str o
 text_unless_null None = refl

@@ -15,11 +15,11 @@ use Rattle.serde_json.proofs.Views.{view-lookup}
 use Rattle.serde_json.specs.declared.value.Value.{Value}
 use Rattle.kds_json_members.specs.Member.{unless_null, member_of}
 
--- An entry of the map: the name of a member and its value.
+-- An entry of the map: a member's name and its value.
 abbrev Entry : Type 0
 Entry = String Global × Value
 
--- Whether an entry of the map has the name `name`. The second argument is the name of the entry.
+-- Whether an entry's name is `name`.
 abbrev pub at_name : List ℕ → String Global → Bool
 at_name name = is_at (λ k. slice_cmp nat_cmp name (string_bytes k))
 
@@ -39,19 +39,16 @@ other_is (string s) h = refl
 other_is (array ds) h = refl
 other_is (object ms) h = refl
 
--- If null is found in the map by a name, the object has no member with this name, as null counts as absent.
 pub null_at : (name : List ℕ) (es : List Entry) (v : Value) → Some v ≡ lookup (at_name name) es
     → is_some (as_null (view v)) ≡ true
     → None ≡ member_of name (object (members_view es))
 null_at name es v e h = null_is (view v) h ∙ sym (ap (option_and_then unless_null) (found_at name es (Some v) e))
 
--- If a value that isn't null is found in the map by a name, it is the value of the object's member with this name.
 pub value_at : (name : List ℕ) (es : List Entry) (v : Value) → Some v ≡ lookup (at_name name) es
     → is_some (as_null (view v)) ≡ false
     → Some (view v) ≡ member_of name (object (members_view es))
 value_at name es v e h = other_is (view v) h ∙ sym (ap (option_and_then unless_null) (found_at name es (Some v) e))
 
--- If nothing is found in the map by a name, the object has no member with this name.
 pub nothing_at : (name : List ℕ) (es : List Entry) → None ≡ lookup (at_name name) es
     → None ≡ member_of name (object (members_view es))
 nothing_at name es e = sym (ap (option_and_then unless_null) (found_at name es None e))

@@ -11,8 +11,8 @@ mod tokens;
 
 pub use member::{absent_member, has_member, object_members, required_member, stop_at, value_at};
 pub use numbers::{
-    hash_member, id_member, moment_member, number_member, optional_id, optional_limit, record_hash,
-    sequence_member,
+    hash_member, moment_member, number_member, optional_id, optional_limit, record_hash,
+    sequence_member, shard_member,
 };
 pub use problem::{Fault, FaultKind, Stop};
 pub use texts::{

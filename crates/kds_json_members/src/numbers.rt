@@ -148,7 +148,7 @@ fn id_value(value: &Value) -> Option<ShardNo>
 
 /// Reads the required member `name` as a shard ID, and returns the shard's number.
 #[tactic(auto, unfolding(crate::specs::Member::required_at))]
-pub fn id_member(alloc: Global, object: &Map<String, Value>, name: &str) -> Result<ShardNo, Stop>
+pub fn shard_member(alloc: Global, object: &Map<String, Value>, name: &str) -> Result<ShardNo, Stop>
     ensures { Gives (λ x. x) result (required_at id_in name.now (object_view object.now)) }
 {
     let value = required_member(alloc, object, name)?;

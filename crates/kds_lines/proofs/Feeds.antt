@@ -1,5 +1,4 @@
--- After one more line or piece of an input was fed, the line buffer stands for the fed bytes (`Stands`), or the reading
--- is halted. To be halted with an outcome means that `Halted` holds with it.
+-- After a line or piece was fed, the buffer stands for the fed bytes, or the reading is halted.
 use Rattle.std.proofs.Common.{◌≡◌, ℕ, ◌+◌, List, [], ◌∷◌, ◌++◌, length, Bool, true, false, Option, Some, None, refl}
 use Rattle.std.proofs.Common.{sym, ap, ◌∙◌, subst, ◌<◌, ◌≤◌, ◌⊎◌, arith, inl, inr}
 use Rattle.std.proofs.lemmas.Grind.{common_steps}
@@ -27,47 +26,43 @@ use Rattle.kds_lines.proofs.Pieces.{begins_more, too_long_more}
 
 -- ---- The output that waits is written
 
--- If all of the output that waits is written, then no output waits any more (`Wrote`).
-pub flushed : (start before now : Option (List ℕ)) (output waits missing : List ℕ)
-    → Wrote start before output waits missing → Appends before now waits → Wrote start now output [] missing
-flushed start before now output waits missing w a = record {
+pub flushed : (start old now : Option (List ℕ)) (output waits missing : List ℕ)
+    → Wrote start old output waits missing → Appends old now waits → Wrote start now output [] missing
+flushed start old now output waits missing w a = record {
   front = w.front ++ waits;
   parts = w.parts ∙ sym (append_assoc w.front waits missing);
-  written = Appends-trans start before now w.front waits w.written a;
+  written = Appends-trans start old now w.front waits w.written a;
 }
 
--- If only a first part of the output that waits is written, the rest is lost (`Loses`).
-pub lost : (start before now : Option (List ℕ)) (output waits missing : List ℕ)
-    → Wrote start before output waits missing → AppendsFront before now waits → Loses start now output
-lost start before now output waits missing w a = (
+pub lost : (start old now : Option (List ℕ)) (output waits missing : List ℕ)
+    → Wrote start old output waits missing → AppendsFront old now waits → Loses start now output
+lost start old now output waits missing w a = (
   a.1 ++ missing,
   record {
     front = w.front ++ a.0;
     parts = w.parts ∙ ap (λ z. w.front ++ (z ++ missing)) a.2 ∙ ap (λ z. w.front ++ z) (append_assoc a.0 a.1 missing)
         ∙ sym (append_assoc w.front a.0 (a.1 ++ missing));
-    written = Appends-trans start before now w.front a.0 w.written a.3;
+    written = Appends-trans start old now w.front a.0 w.written a.3;
   },
 )
 
--- If a flush succeeds, all of the output that waited is written, and no output waits.
-pub flush_ok : {E : Type 0} (r : Result (Unit {0}) E) (before now : Option (List ℕ)) (piece waits : List ℕ)
-    → piece ≡ waits → OnOk r (Appends before now piece)
-    → OnOk r ((start : Option (List ℕ)) (whole missing : List ℕ) → Wrote start before whole waits missing
+pub flush_ok : {E : Type 0} (r : Result (Unit {0}) E) (old now : Option (List ℕ)) (piece waits : List ℕ)
+    → piece ≡ waits → OnOk r (Appends old now piece)
+    → OnOk r ((start : Option (List ℕ)) (whole missing : List ℕ) → Wrote start old whole waits missing
     → Wrote start now whole [] missing)
-flush_ok (Ok x) before now piece waits e h =
+flush_ok (Ok x) old now piece waits e h =
     λ start whole missing w.
-    flushed start before now whole waits missing w (subst (λ (z : List ℕ). Appends before now z) e h)
-flush_ok (Err x) before now piece waits e h = tt
+    flushed start old now whole waits missing w (subst (λ (z : List ℕ). Appends old now z) e h)
+flush_ok (Err x) old now piece waits e h = tt
 
--- If a flush fails, only a first part of the output that waited is written, and the rest is lost (`Loses`).
-pub flush_err : {E : Type 0} (r : Result (Unit {0}) E) (before now : Option (List ℕ)) (piece waits : List ℕ)
-    → piece ≡ waits → OnErr r (AppendsFront before now piece)
-    → OnErr r ((start : Option (List ℕ)) (whole missing : List ℕ) → Wrote start before whole waits missing
+pub flush_err : {E : Type 0} (r : Result (Unit {0}) E) (old now : Option (List ℕ)) (piece waits : List ℕ)
+    → piece ≡ waits → OnErr r (AppendsFront old now piece)
+    → OnErr r ((start : Option (List ℕ)) (whole missing : List ℕ) → Wrote start old whole waits missing
     → Loses start now whole)
-flush_err (Ok x) before now piece waits e h = tt
-flush_err (Err x) before now piece waits e h =
+flush_err (Ok x) old now piece waits e h = tt
+flush_err (Err x) old now piece waits e h =
     λ start whole missing w.
-    lost start before now whole waits missing w (subst (λ (z : List ℕ). AppendsFront before now z) e h)
+    lost start old now whole waits missing w (subst (λ (z : List ℕ). AppendsFront old now z) e h)
 
 -- ---- A line ends
 
@@ -75,14 +70,13 @@ at_length : (len used : ℕ) (w : List ℕ) {b : Bool} → len ≡ length w → 
     → is_too_long (length w) (used + length w + 1) ≡ b
 at_length len used w {b} el h = subst (λ (z : ℕ). is_too_long z (used + z + 1) ≡ b) el h
 
-module _ (before took : List (List ℕ) → Type 0) (broke refuses : List (List ℕ) → List ℕ
-    → Type 0) (output : List (List ℕ) → List ℕ) where
-  -- The bytes `a` and a line feed end the line that the line buffer holds. If neither this line nor the input is too
-  -- long, and the taker takes the line, the bytes up to the line feed were fed (`Stands`).
+module _ (earlier took : List (List ℕ) → Type 0) (broke refuses : List (List ℕ) → List ℕ → Type 0)
+    (output : List (List ℕ) → List ℕ) where
+  -- A line that the taker takes is fed.
   pub line_taken : (y a : List ℕ) (len : ℕ) (old new : LineBuffer) (start now : Option (List ℕ))
       → len ≡ length (old.held ++ a)
-      → (st : Stands before output y old start now) → NoFeed a → is_too_long len (old.used + len + 1) ≡ false
-      → ((lines : List (List ℕ)) → before lines → Goes took output lines (old.held ++ a) old.output new.output)
+      → (st : Stands earlier output y old start now) → NoFeed a → is_too_long len (old.used + len + 1) ≡ false
+      → ((lines : List (List ℕ)) → earlier lines → Goes took output lines (old.held ++ a) old.output new.output)
       → new.held ≡ [] → new.used ≡ old.used + len + 1 → new.count ≡ old.count + 1
       → Stands took output (y ++ (a ++ 10 ∷ [])) new start now
   line_taken y a len old new start now el st n short goes eh eu ec =
@@ -104,8 +98,6 @@ module _ (before took : List (List ℕ) → Type 0) (broke refuses : List (List 
         };
       }
 
-  -- The bytes `a` and a line feed end the held line. If `Stops` holds for the outcome `o` in these bytes, the taker
-  -- took the lines before, and no output is missing, the reading is halted with `o`.
   pub line_stops : (o : Outcome) (y a : List ℕ) (ts : List (List ℕ)) (used : ℕ) (held waits : List ℕ)
       (start now : Option (List ℕ)) → Fed y ts used held → NoFeed a
       → HasTakenFed o took broke (y ++ (a ++ 10 ∷ [])) ts → Stops o refuses (y ++ (a ++ 10 ∷ [])) ts → Unwritten o []
@@ -121,9 +113,6 @@ module _ (before took : List (List ℕ) → Type 0) (broke refuses : List (List 
     unwritten = all;
   }
 
-  -- The bytes `a` and a line feed end the held line, and neither this line nor the input is too long. If memory runs
-  -- out when the taker is handed this line, the reading is halted with Memory, whether the taker takes the line whole,
-  -- in part or not at all.
   line_breaks : (y a held waits : List ℕ) (ts : List (List ℕ)) (used : ℕ) (start now : Option (List ℕ))
       → Fed y ts used held → NoFeed a
       → is_too_long (length (held ++ a)) (used + length (held ++ a) + 1) ≡ false → Wrote start now (output ts) waits []
@@ -149,8 +138,7 @@ module _ (before took : List (List ℕ) → Type 0) (broke refuses : List (List 
     unwritten = tt;
   }
 
-  -- The bytes `a` and a line feed end the held line. If this line or the input is too long with them, the reading is
-  -- halted with TooLong.
+  -- A line that is too long, or makes the input so, halts the reading with TooLong.
   pub stands_over : (y a : List ℕ) (len : ℕ) (old : LineBuffer) (start now : Option (List ℕ))
       → len ≡ length (old.held ++ a)
       → Stands took output y old start now → NoFeed a → is_too_long len (old.used + len + 1) ≡ true
@@ -160,13 +148,12 @@ module _ (before took : List (List ℕ) → Type 0) (broke refuses : List (List 
       (line_over y a st.texts old.used old.held st.bytes n (at_length len old.used (old.held ++ a) el over))
       refl st.wrote
 
-  -- The bytes `a` and a line feed end the held line, which isn't too long. If the taker refuses this line, the reading
-  -- is halted with Stopped and the line's number.
+  -- A line that the taker refuses halts the reading with Stopped and the line's number.
   pub stands_stops : (y a waits : List ℕ) (len : ℕ) (old : LineBuffer) (start now : Option (List ℕ))
       → len ≡ length (old.held ++ a)
-      → (st : Stands before output y old start now) → NoFeed a → is_too_long len (old.used + len + 1) ≡ false
+      → (st : Stands earlier output y old start now) → NoFeed a → is_too_long len (old.used + len + 1) ≡ false
       → waits ≡ old.output
-      → ((lines : List (List ℕ)) → before lines → took lines × refuses lines (old.held ++ a))
+      → ((lines : List (List ℕ)) → earlier lines → took lines × refuses lines (old.held ++ a))
       → Halted (Stopped (old.count + 1)) took broke refuses output (y ++ (a ++ 10 ∷ [])) waits start now
   stands_stops y a waits len old start now el st n short same stops =
       let s = stops st.texts st.taken in
@@ -174,13 +161,12 @@ module _ (before took : List (List ℕ) → Type 0) (broke refuses : List (List 
       line_stops (Stopped (old.count + 1)) y a st.texts old.used old.held waits start now st.bytes n s.0
       (old.held ++ a, fed_begins _ _ _ _ fed, s.1, ap (λ z. z + 1) st.count) refl (rw same st.wrote)
 
-  -- The bytes `a` and a line feed end the held line, which isn't too long. If memory runs out when the taker is handed
-  -- this line, the reading is halted with Memory.
+  -- A line at which memory runs out halts the reading with Memory.
   pub stands_breaks : (y a waits : List ℕ) (len : ℕ) (old : LineBuffer) (start now : Option (List ℕ))
       → len ≡ length (old.held ++ a)
-      → (st : Stands before output y old start now) → NoFeed a → is_too_long len (old.used + len + 1) ≡ false
+      → (st : Stands earlier output y old start now) → NoFeed a → is_too_long len (old.used + len + 1) ≡ false
       → waits ≡ old.output
-      → ((lines : List (List ℕ)) → before lines → Breaks took broke output lines (old.held ++ a))
+      → ((lines : List (List ℕ)) → earlier lines → Breaks took broke output lines (old.held ++ a))
       → Halted Memory took broke refuses output (y ++ (a ++ 10 ∷ [])) waits start now
   stands_breaks y a waits len old start now el st n short same breaks =
       line_breaks y a old.held waits st.texts old.used start now st.bytes n
@@ -188,8 +174,7 @@ module _ (before took : List (List ℕ) → Type 0) (broke refuses : List (List 
 
   -- ---- Output is written, or lost
 
-  -- If the line buffer stands for the fed bytes (`Stands`), it still does after some or all of the waiting output was
-  -- written.
+  -- Writing waiting output leaves the buffer standing for the fed bytes.
   pub stands_written : (y : List ℕ) (old new : LineBuffer) (start mid now : Option (List ℕ)) → new.held ≡ old.held
       → new.count ≡ old.count → new.used ≡ old.used
       → (st : Stands took output y old start mid)
@@ -203,7 +188,7 @@ module _ (before took : List (List ℕ) → Type 0) (broke refuses : List (List 
     wrote = writes (output st.texts) [] st.wrote;
   }
 
-  -- If the waiting output can't all be written, the reading is halted with Write, and the unwritten output is lost.
+  -- A failed write halts the reading with Write, and the unwritten output is lost.
   pub stands_lost : (y waits : List ℕ) (old : LineBuffer) (start mid now : Option (List ℕ)) → waits ≡ []
       → (st : Stands took output y old start mid)
       → ((whole missing : List ℕ) → Wrote start mid whole old.output missing → Loses start now whole)
@@ -219,8 +204,7 @@ module _ (before took : List (List ℕ) → Type 0) (broke refuses : List (List 
         unwritten = tt;
       }
 
-  -- If the waiting output is written after the reading was halted with `o`, the reading is halted with `o`, and no
-  -- output waits.
+  -- Waiting output may be written after the reading was halted.
   pub halted_written : (o : Outcome) (y waits : List ℕ) (start mid now : Option (List ℕ))
       → Halted o took broke refuses output y waits start mid
       → ((whole missing : List ℕ) → Wrote start mid whole waits missing → Wrote start now whole [] missing)
@@ -235,8 +219,6 @@ module _ (before took : List (List ℕ) → Type 0) (broke refuses : List (List 
     unwritten = h.unwritten;
   }
 
-  -- If output is lost after the taker took the lines `ts`, which are the first lines of the bytes `y`, the reading is
-  -- halted with Write, and no output waits.
   lost_there : (y : List ℕ) (ts : List (List ℕ)) (start now : Option (List ℕ)) → Begins y ts → took ts
       → Loses start now (output ts)
       → Halted Write took broke refuses output y [] start now
@@ -250,8 +232,6 @@ module _ (before took : List (List ℕ) → Type 0) (broke refuses : List (List 
     unwritten = tt;
   }
 
-  -- If the waiting output can't all be written after the reading was halted with `o`, the reading is halted with Memory
-  -- if `o` is Memory, and otherwise with Write.
   pub halted_lost : (o : Outcome) (y waits : List ℕ) (start mid now : Option (List ℕ))
       → Halted o took broke refuses output y waits start mid
       → ((whole missing : List ℕ) → Wrote start mid whole waits missing → Loses start now whole)
@@ -269,15 +249,14 @@ module _ (before took : List (List ℕ) → Type 0) (broke refuses : List (List 
   halted_lost _ y waits start mid now h loses =
       lost_there y h.texts start now h.begins h.taken (loses (output h.texts) h.missing h.wrote)
 
-  -- If a piece was fed with the result `r`, and then the waiting output can't all be written, the reading is halted
-  -- with `lost_after r`.
+  -- Output that can't be written after a piece was fed halts the reading with `lost_after r`.
   pub fed_lost : (r : Result (Unit {0}) Outcome) (piece : List ℕ) (old new : LineBuffer)
       (held mid now : Option (List ℕ))
-      → OnOk r ((fed : List ℕ) (start : Option (List ℕ)) → Stands before output fed old start held
+      → OnOk r ((fed : List ℕ) (start : Option (List ℕ)) → Stands earlier output fed old start held
       → Stands took output (fed ++ piece) new start mid)
-      → IfErr r (λ o. (fed : List ℕ) (start : Option (List ℕ)) → Stands before output fed old start held
+      → IfErr r (λ o. (fed : List ℕ) (start : Option (List ℕ)) → Stands earlier output fed old start held
       → Halted o took broke refuses output (fed ++ piece) new.output start mid)
-      → (fed : List ℕ) (start : Option (List ℕ)) → Stands before output fed old start held
+      → (fed : List ℕ) (start : Option (List ℕ)) → Stands earlier output fed old start held
       → ((whole missing : List ℕ) → Wrote start mid whole new.output missing → Loses start now whole)
       → Halted (lost_after r) took broke refuses output (fed ++ piece) [] start now
   fed_lost (Ok x) piece old new held mid now ok err fed start st loses =
@@ -301,8 +280,6 @@ module _ (before took : List (List ℕ) → Type 0) (broke refuses : List (List 
   taken_more Memory y z ts (inr part) = inr (part.0, begins_more y z _ part.1, part.2)
   taken_more _ y z ts t = t
 
-  -- If the reading is halted in the bytes `y` with an outcome of a piece (`IsFeedStop`), it is halted with this outcome
-  -- in `y` with any bytes `z` after it.
   pub halted_more : (o : Outcome) (y z waits : List ℕ) (start now : Option (List ℕ)) → IsFeedStop o
       → Halted o took broke refuses output y waits start now
       → Halted o took broke refuses output (y ++ z) waits start now
@@ -316,7 +293,6 @@ module _ (before took : List (List ℕ) → Type 0) (broke refuses : List (List 
     unwritten = h.unwritten;
   }
 
-  -- Before any byte of `piece` is fed, the fed part of `piece` is empty, and all of `piece` remains.
   pub lines_begin : (fed piece : List ℕ) (line_buffer : LineBuffer) (start now : Option (List ℕ))
       → Stands took output fed line_buffer start now → FedLines took output fed piece piece line_buffer start now
   lines_begin fed piece line_buffer start now st = record {
@@ -325,10 +301,8 @@ module _ (before took : List (List ℕ) → Type 0) (broke refuses : List (List 
     stands = subst (λ (z : List ℕ). Stands took output z line_buffer start now) (sym (append-nil fed)) st;
   }
 
-  -- If the line `line`, with which the remaining bytes of `piece` begin, is fed too, the fed part is longer by this
-  -- line, and `next` remains.
   pub lines_go : (fed piece rest line next : List ℕ) (old new : LineBuffer) (start mid now : Option (List ℕ))
-      → (f : FedLines before output fed piece rest old start mid) → rest ≡ line ++ next
+      → (f : FedLines earlier output fed piece rest old start mid) → rest ≡ line ++ next
       → Stands took output ((fed ++ f.front) ++ line) new start now → FedLines took output fed piece next new start now
   lines_go fed piece rest line next old new start mid now f parts st = record {
     front = f.front ++ line;
@@ -336,11 +310,10 @@ module _ (before took : List (List ℕ) → Type 0) (broke refuses : List (List 
     stands = subst (λ (z : List ℕ). Stands took output z new start now) (append_assoc fed f.front line) st;
   }
 
-  -- If the reading is halted in the line with which the remaining bytes of `piece` begin, the reading is halted in
-  -- `piece` too.
+  -- A reading halted in a line of the piece is halted in the piece.
   pub lines_stop : (fed piece rest line next waits : List ℕ) (old : LineBuffer) (start mid now : Option (List ℕ))
       (o : Outcome) → IsFeedStop o
-      → (f : FedLines before output fed piece rest old start mid) → rest ≡ line ++ next
+      → (f : FedLines earlier output fed piece rest old start mid) → rest ≡ line ++ next
       → Halted o took broke refuses output ((fed ++ f.front) ++ line) waits start now
       → Halted o took broke refuses output (fed ++ piece) waits start now
   lines_stop fed piece rest line next waits old start mid now o k f parts h =
@@ -352,8 +325,7 @@ module _ (before took : List (List ℕ) → Type 0) (broke refuses : List (List 
 
   -- ---- The bytes of a piece after its last line feed
 
-  -- If the remaining bytes of `piece` have no line feed and are added to the bytes that the line buffer holds, the
-  -- whole piece was fed.
+  -- The rest of a piece, without a line feed, is held, and the whole piece was fed.
   pub piece_held : (fed piece rest : List ℕ) (old new : LineBuffer) (start now : Option (List ℕ))
       → (f : FedLines took output fed piece rest old start now) → NoFeed rest
       → new.output ≡ old.output → new.count ≡ old.count
@@ -377,8 +349,7 @@ module _ (before took : List (List ℕ) → Type 0) (broke refuses : List (List 
   held_stops Memory y ts t h = (tt, (tt, inl t))
   held_stops _ y ts t h = absurd h
 
-  -- If the remaining bytes of `piece` have no line feed and can't be held, for the reason that `HoldStops` gives with
-  -- the outcome `o`, the reading is halted with `o`.
+  -- The rest of a piece that can't be held halts the reading.
   pub piece_stops : (fed piece rest waits : List ℕ) (old : LineBuffer) (start now : Option (List ℕ)) (o : Outcome)
       → (f : FedLines took output fed piece rest old start now) → NoFeed rest
       → waits ≡ old.output → ((y : List ℕ) (ts : List (List ℕ)) → Fed y ts old.used old.held → NoFeed rest
@@ -406,7 +377,6 @@ some_over : (used : ℕ) (w : List ℕ) → used ≤ INPUT_BYTES → is_too_long
     × ((LINE_BYTES < length w) ⊎ (INPUT_BYTES < used + length w))
 some_over used w h over = (grind (arith, common_steps), grind (arith, common_steps))
 
--- If bytes without a line feed make the held line or the input too long, `IsTooLong` holds, whatever follows.
 pub hold_over : (y a : List ℕ) (len used : ℕ) (held : List ℕ) (ts : List (List ℕ)) → len ≡ length (held ++ a)
     → used ≤ INPUT_BYTES → Fed y ts used held → NoFeed a
     → is_too_long len (used + len) ≡ true → IsTooLong (y ++ a) ts
@@ -416,12 +386,10 @@ hold_over y a len used held ts el small f n over =
     let o = some_over used (held ++ a) small over' in
     more_over y a ts used held f n o.0 o.1
 
--- If the bytes `a` without a line feed are fed after `y`, the held bytes with `a` at their end are held (`Fed`).
 pub hold_fed : (y a : List ℕ) (used : ℕ) (held now : List ℕ) (ts : List (List ℕ)) → now ≡ held ++ a → Fed y ts used held
     → NoFeed a → Fed (y ++ a) ts used now
 hold_fed y a used held now ts e f n = rw e (more_fed y a ts used held f n)
 
--- Each outcome with which a line may stop the reading is one with which a piece may.
 pub own_is_feed : (o : Outcome) → IsOwnStop o → IsFeedStop o
 own_is_feed (Stopped n) h = tt
 own_is_feed TooLong h = tt
@@ -429,7 +397,6 @@ own_is_feed Memory h = tt
 own_is_feed Write h = tt
 own_is_feed _ h = absurd h
 
--- No line stops the reading with Write.
 pub own_is_no_write : (o : Outcome) → IsOwnStop o → o ≡ Write → ⊥
 own_is_no_write o h e = let bad : IsOwnStop Write = subst (λ (z : Outcome). IsOwnStop z) e h in bad
 
@@ -440,9 +407,9 @@ not_over len used a b = grind (arith, common_steps)
 
 -- ---- What is known at the end of the reading
 
-module _ (took : List (List ℕ) → Type 0) (broke refuses : List (List ℕ) → List ℕ → Type 0) (output : List (List ℕ)
-    → List ℕ) where
-  -- If the source fails and keeps its bytes, a running reading is halted with Read.
+module _ (took : List (List ℕ) → Type 0) (broke refuses : List (List ℕ) → List ℕ → Type 0)
+    (output : List (List ℕ) → List ℕ) where
+  -- A source that fails and keeps its bytes halts the reading with Read.
   pub halted_read : (all left after start now : Option (List ℕ)) (line_buffer : LineBuffer)
       → Running took output all left line_buffer start now → Keeps left after
       → HaltedAfter Read took broke refuses output all after start now
@@ -478,13 +445,10 @@ module _ (took : List (List ℕ) → Type 0) (broke refuses : List (List ℕ) �
     unwritten = h.unwritten;
   }
 
-  -- Let `fed` be the first of all bytes, and let its first lines be `ts`. Then the lines of all bytes are `ts`,
-  -- followed by further lines.
   begun : (x fed ys : List ℕ) (ts : List (List ℕ)) → x ≡ fed ++ ys → (b : Begins fed ts)
       → (lined x).texts ≡ ts ++ (b ys).0
   begun x fed ys ts e b = ap (λ z. (lined z).texts) e ∙ (b ys).1
 
-  -- If memory ran out, `Told` holds of the reading, whether the taker took the next line whole, in part or not at all.
   told_broken : (x fed ys : List ℕ) (start now : Option (List ℕ)) → x ≡ fed ++ ys
       → (h : Halted Memory took broke refuses output fed [] start now)
       → HasTakenFed Memory took broke fed h.texts → Told Memory took broke refuses output x (Some ys) start now
@@ -522,8 +486,7 @@ module _ (took : List (List ℕ) → Type 0) (broke refuses : List (List ℕ) �
   told_at Whole x fed ys start now k e h = absurd k
   told_at (Unfinished n) x fed ys start now k e h = absurd k
 
-  -- If the reading was halted with `o` before the input's end, and the source tells its bytes, `Told` holds of the
-  -- reading of all these bytes.
+  -- A reading halted before the input's end is told of all the source's bytes.
   pub told_halt : (o : Outcome) (all left start now : Option (List ℕ)) → IsStop o
       → HaltedAfter o took broke refuses output all left start now
       → IfSome all (λ bytes. Told o took broke refuses output bytes left start now)
@@ -565,8 +528,7 @@ module _ (took : List (List ℕ) → Type 0) (broke refuses : List (List ℕ) �
         unwritten = refl;
       })
 
-  -- If the source is at its end, `Told` holds of the reading of all bytes, with Whole if the line buffer holds no byte,
-  -- and otherwise with Unfinished.
+  -- At the source's end, the reading is told as Whole without held bytes, and otherwise as Unfinished.
   pub told_end : (all left start now : Option (List ℕ)) (line_buffer : LineBuffer)
       → Running took output all left line_buffer start now → IsAtEnd left
       → length line_buffer.held ≤ LINE_BYTES → line_buffer.used + length line_buffer.held ≤ INPUT_BYTES

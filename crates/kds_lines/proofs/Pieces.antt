@@ -1,4 +1,4 @@
--- The bytes of an input so far decide its first lines, whatever bytes follow.
+-- The bytes of an input so far decide its first lines, whatever follows.
 use Rattle.std.proofs.Common.{◌≡◌, ℕ, zero, suc, ◌+◌, ◌<◌, ◌≤◌, List, [], ◌∷◌, ◌++◌, length, take, drop, Bool, true}
 use Rattle.std.proofs.Common.{false, Option, Some, None, cond, refl, sym, ap, subst, ◌∙◌, arith, inl, inr, ◌⊎◌}
 use Rattle.std.proofs.lemmas.Grind.{common_steps}
@@ -21,45 +21,43 @@ no_other b differs = elim (cases_Bool (b == 10)) [
   | inr other ↦ other
 ]
 
-none_before : (bytes : List ℕ) (at : ℕ) → ((k : ℕ) → k < at → k < length bytes → Passes (is_byte 10) bytes k → ⊥)
-    → NoFeed (take at bytes)
+none_before : (bytes : List ℕ) (index : ℕ) → ((k : ℕ) → k < index → k < length bytes → Passes (is_byte 10) bytes k → ⊥)
+    → NoFeed (take index bytes)
 none_before [] zero h = tt
-none_before [] (suc at) h = tt
+none_before [] (suc index) h = tt
 none_before (b ∷ bs) zero h = tt
-none_before (b ∷ bs) (suc at) h = (
+none_before (b ∷ bs) (suc index) h = (
   no_other b (h 0 (omega arith) (omega arith)),
-  none_before bs at (λ k low within. h (suc k) (omega arith) (omega arith)),
+  none_before bs index (λ k low within. h (suc k) (omega arith) (omega arith)),
 )
 
 nowhere : (bytes : List ℕ) → ((k : ℕ) → k < length bytes → Passes (is_byte 10) bytes k → ⊥) → NoFeed bytes
 nowhere [] h = tt
 nowhere (b ∷ bs) h = (no_other b (h 0 (omega arith)), nowhere bs (λ k within. h (suc k) (omega arith)))
 
-parted : (bytes : List ℕ) (at : ℕ) → at < length bytes → Passes (is_byte 10) bytes at
-    → bytes ≡ take at bytes ++ 10 ∷ drop (suc at) bytes
-parted [] at within here = absurd (omega arith)
+parted : (bytes : List ℕ) (index : ℕ) → index < length bytes → Passes (is_byte 10) bytes index
+    → bytes ≡ take index bytes ++ 10 ∷ drop (suc index) bytes
+parted [] index within here = absurd (omega arith)
 parted (b ∷ bs) zero within here = ap (λ x. x ∷ bs) (eqb-true b 10 here)
-parted (b ∷ bs) (suc at) within here = ap (λ rest. b ∷ rest) (parted bs at (omega arith) here)
+parted (b ∷ bs) (suc index) within here = ap (λ rest. b ∷ rest) (parted bs index (omega arith) here)
 
--- The search for the byte 10 finds the index of the first line feed, or finds none if there is no line feed.
 pub first_is : (bytes : List ℕ) (r : Option ℕ) → IsFirstByte (is_byte 10) bytes r
     → MatchOption r (NoFeed bytes) (HasFeedAt bytes)
 first_is bytes None h = nowhere bytes (λ k within. h k (omega arith) within)
-first_is bytes (Some at) h =
-    let next : suc at ≡ at + 1 = omega arith in
+first_is bytes (Some index) h =
+    let next : suc index ≡ index + 1 = omega arith in
     record {
       within = h.0.high;
-      before = none_before bytes at (λ k low within. h.0.before k (omega arith) low);
-      parts = parted bytes at h.0.high h.1 ∙ ap (λ n. take at bytes ++ 10 ∷ drop n bytes) next;
+      before = none_before bytes index (λ k low within. h.0.before k (omega arith) low);
+      parts = parted bytes index h.0.high h.1 ∙ ap (λ n. take index bytes ++ 10 ∷ drop n bytes) next;
     }
 
--- If the first line feed is at the index `at`, the bytes are those before it, the line feed, and those after it.
-pub feed_parts : (rest tail after next : List ℕ) (at : ℕ) → HasFeedAt rest at → tail ≡ take at rest
-    → after ≡ drop at rest → next ≡ drop 1 after
+pub feed_parts : (rest tail after next : List ℕ) (index : ℕ) → HasFeedAt rest index → tail ≡ take index rest
+    → after ≡ drop index rest → next ≡ drop 1 after
     → (rest ≡ (tail ++ 10 ∷ []) ++ next) × NoFeed tail
-feed_parts rest tail after next at c et ea en =
-    let e : next ≡ drop (at + 1) rest = en ∙ ap (λ z. drop 1 z) ea ∙ drop-drop 1 at rest in (
-      c.parts ∙ ap (λ z. z ++ 10 ∷ drop (at + 1) rest) (sym et) ∙ ap (λ z. tail ++ 10 ∷ z) (sym e)
+feed_parts rest tail after next index c et ea en =
+    let e : next ≡ drop (index + 1) rest = en ∙ ap (λ z. drop 1 z) ea ∙ drop-drop 1 index rest in (
+      c.parts ∙ ap (λ z. z ++ 10 ∷ drop (index + 1) rest) (sym et) ∙ ap (λ z. tail ++ 10 ∷ z) (sym e)
           ∙ sym (append_assoc tail (10 ∷ []) next),
       subst (λ (z : List ℕ). NoFeed z) (sym et) c.before,
     )
@@ -78,12 +76,11 @@ cut_cond : (c : Bool) (ps : List (List ℕ)) (b : ℕ) → IsCut (cond c ([] ∷
 cut_cond true ps b = ([], ps, refl)
 cut_cond false ps b = onto_first_cut b ps
 
--- Bytes have at least one part.
 pieces_cut : (bytes : List ℕ) → IsCut (pieces bytes)
 pieces_cut [] = ([], [], refl)
 pieces_cut (b ∷ bs) = cut_cond (is_feed b) (pieces bs) b
 
--- The parts `ps` with the bytes `a` put before the first one.
+-- The parts with the bytes `a` before the first one.
 abbrev onto_piece : List ℕ → List (List ℕ) → List (List ℕ)
 onto_piece a [] = a ∷ []
 onto_piece a (q ∷ qs) = (a ++ q) ∷ qs
@@ -97,7 +94,6 @@ onto_nothing : (ps : List (List ℕ)) → IsCut ps → ps ≡ onto_piece [] ps
 onto_nothing [] c = cc
 onto_nothing (q ∷ qs) c = refl
 
--- If the bytes `a` without a line feed come before the bytes `z`, then `a` belongs to the first part of both together.
 pieces_onto : (a z : List ℕ) → NoFeed a → pieces (a ++ z) ≡ onto_piece a (pieces z)
 pieces_onto [] z n = onto_nothing (pieces z) (pieces_cut z)
 pieces_onto (b ∷ a) z n = slice_split-cons_no is_feed b (a ++ z) n.0 ∙ ap (onto_first b) (pieces_onto a z n.1)
@@ -107,7 +103,6 @@ no_feed-append : (a b : List ℕ) → NoFeed a → NoFeed b → NoFeed (a ++ b)
 no_feed-append [] b n m = m
 no_feed-append (x ∷ a) b n m = (n.0, no_feed-append a b n.1 m)
 
--- Bytes without a line feed are one part.
 pieces_none : (a : List ℕ) → NoFeed a → pieces a ≡ a ∷ []
 pieces_none a n = ap pieces (sym (append-nil a)) ∙ pieces_onto a [] n ∙ ap (λ w. w ∷ []) (append-nil a)
 
@@ -143,8 +138,6 @@ longer : (used n m k : ℕ) → n ≤ m → (LINE_BYTES < n) ⊎ (INPUT_BYTES < 
 longer used n m k le (inl h) = inl (omega arith)
 longer used n m k le (inr h) = inr (omega arith)
 
--- If the bytes `a` without a line feed make the line or the input too long, the input ends with `too_long`, whatever
--- follows.
 lined_over : (used : ℕ) (a : List ℕ) (ps : List (List ℕ)) → IsCut ps → 0 < length a → (LINE_BYTES < length a)
     ⊎ (INPUT_BYTES < used + length a)
     → lined_from used (onto_piece a ps) ≡ ended too_long
@@ -163,8 +156,6 @@ lined_over used a (q ∷ r ∷ rs) c n h =
 
 -- ---- Bytes are fed
 
--- The bytes `a` and a line feed end the held line, and the bytes `z` follow. Then the lines are those so far, this
--- line, and the lines of `z`. If this line or the input is too long, the lines end before this line.
 feed_goes : (y a z : List ℕ) (ts : List (List ℕ)) (used : ℕ) (held : List ℕ) → Fed y ts used held → NoFeed a
     → lined ((y ++ (a ++ 10 ∷ [])) ++ z)
     ≡ preceded_by ts (cond (is_too_long (length (held ++ a)) (used + length (held ++ a) + 1)) (ended too_long)
@@ -175,8 +166,6 @@ feed_goes y a z ts used held f n =
     ap lined whole_y ∙ f.goes_on (a ++ 10 ∷ z) ∙ ap (λ w. preceded_by ts (lined_from used (pieces w))) whole_held
     ∙ ap (preceded_by ts) (lined_first used (held ++ a) z (no_feed-append held a f.no_feed n))
 
--- The bytes `a` and a line feed end the held line. If neither this line nor the input is too long, this line is one
--- more whole line, and no bytes are held.
 pub line_fed : (y a : List ℕ) (ts : List (List ℕ)) (used : ℕ) (held : List ℕ) → Fed y ts used held → NoFeed a
     → is_too_long (length (held ++ a)) (used + length (held ++ a) + 1) ≡ false
     → Fed (y ++ (a ++ 10 ∷ [])) (ts ++ (held ++ a) ∷ []) (used + length (held ++ a) + 1) []
@@ -193,7 +182,6 @@ line_fed y a ts used held f n short = record {
 nothing_more : (ts : List (List ℕ)) → preceded_by ts (ended too_long) ≡ record { texts = ts; end = too_long }
 nothing_more ts = ap (λ w. record { texts = w; end = too_long }) (append-nil ts)
 
--- The bytes `a` and a line feed end the held line. If this line or the input is too long, `IsTooLong` holds.
 pub line_over : (y a : List ℕ) (ts : List (List ℕ)) (used : ℕ) (held : List ℕ) → Fed y ts used held → NoFeed a
     → is_too_long (length (held ++ a)) (used + length (held ++ a) + 1) ≡ true → IsTooLong (y ++ (a ++ 10 ∷ [])) ts
 line_over y a ts used held f n over = λ more. feed_goes y a more ts used held f n
@@ -202,7 +190,6 @@ line_over y a ts used held f n over = λ more. feed_goes y a more ts used held f
     over
     ∙ nothing_more ts
 
--- Bytes without a line feed are held with the bytes that are held already.
 pub more_fed : (y a : List ℕ) (ts : List (List ℕ)) (used : ℕ) (held : List ℕ) → Fed y ts used held → NoFeed a
     → Fed (y ++ a) ts used (held ++ a)
 more_fed y a ts used held f n = record {
@@ -211,7 +198,6 @@ more_fed y a ts used held f n = record {
   no_feed = no_feed-append held a f.no_feed n;
 }
 
--- If bytes without a line feed make the held line or the input too long, `IsTooLong` holds.
 pub more_over : (y a : List ℕ) (ts : List (List ℕ)) (used : ℕ) (held : List ℕ) → Fed y ts used held → NoFeed a
     → 0 < length (held ++ a)
     → (LINE_BYTES < length (held ++ a)) ⊎ (INPUT_BYTES < used + length (held ++ a)) → IsTooLong (y ++ a) ts
@@ -220,7 +206,6 @@ more_over y a ts used held f n some over =
     λ z. g.goes_on z ∙ ap (λ w. preceded_by ts (lined_from used w)) (pieces_onto (held ++ a) z g.no_feed)
     ∙ ap (preceded_by ts) (lined_over used (held ++ a) (pieces z) (pieces_cut z) some over) ∙ nothing_more ts
 
--- At the end of the bytes, the lines are the whole lines so far, and the held bytes decide how the input ends.
 pub at_end : (y : List ℕ) (ts : List (List ℕ)) (used : ℕ) (held : List ℕ) → Fed y ts used held
     → lined y ≡ preceded_by ts (last_of used held)
 at_end y ts used held f =
@@ -232,7 +217,6 @@ no_texts : (used : ℕ) (held : List ℕ) → (last_of used held).texts ≡ []
 no_texts used [] = refl
 no_texts used (b ∷ bs) = refl
 
--- The whole lines so far are all whole lines of the bytes so far.
 pub lines_so_far : (y : List ℕ) (ts : List (List ℕ)) (used : ℕ) (held : List ℕ) → Fed y ts used held
     → (lined y).texts ≡ ts
 lines_so_far y ts used held f =
@@ -240,14 +224,11 @@ lines_so_far y ts used held f =
 
 -- ---- The first lines of an input
 
--- If the whole lines of bytes are `ts` (`Fed`), these are the first lines, whatever follows.
 pub fed_begins : (y : List ℕ) (ts : List (List ℕ)) (used : ℕ) (held : List ℕ) → Fed y ts used held → Begins y ts
 fed_begins y ts used held f = λ more. (_, ap (λ l. l.texts) (f.goes_on more))
 
--- If the first lines of bytes are `ts`, they still are when the bytes `z` follow.
 pub begins_more : (y z : List ℕ) (ts : List (List ℕ)) → Begins y ts → Begins (y ++ z) ts
 begins_more y z ts b = λ more. let r = b (z ++ more) in (r.0, ap (λ w. (lined w).texts) (append_assoc y z more) ∙ r.1)
 
--- If the line after the lines `ts`, or the input with it, is too long, it still is when the bytes `z` follow.
 pub too_long_more : (y z : List ℕ) (ts : List (List ℕ)) → IsTooLong y ts → IsTooLong (y ++ z) ts
 too_long_more y z ts d = λ more. ap lined (append_assoc y z more) ∙ d (z ++ more)

@@ -1,5 +1,4 @@
--- Defines how the reading of an input ends, by the bytes that the source tells. Of a taker, `took texts` says that it
--- took just the lines `texts`, and `output texts` is its output for these lines.
+-- How the reading of an input ends, by the bytes that the source tells.
 use Rattle.std.specs.Prelude.{◌≡◌, ◌⊎◌, ℕ, ◌+◌, List, [], ◌∷◌, ◌++◌, length, Some}
 use Rattle.std.specs.declared.option.Option.{Option}
 use Rattle.std.specs.Io.KnownBytes.{Appends}
@@ -8,13 +7,9 @@ use Rattle.kds_lines.specs.declared.outcome.Outcome.{Outcome}
 use Rattle.kds_lines.specs.declared.outcome.Outcome.TheVariants.{Whole, Unfinished, Stopped, TooLong, Read, Write}
 use Rattle.kds_lines.specs.declared.outcome.Outcome.TheVariants.{Memory}
 
--- Why the reading of `bytes` ended with an outcome after the lines `texts`. The whole lines `rest` come after these,
--- and `left` are the bytes that the source has left. With Whole, Unfinished and TooLong, no line comes after, and
--- `bytes` end in this way. With Stopped, the taker refused the first line of `rest`. With Read, `texts` are all whole
--- lines of the bytes that were read. With Write and Memory, nothing more is known. The number of Unfinished and of
--- Stopped is that of the line after `texts`.
-abbrev pub Because : Outcome → (List (List ℕ) → List ℕ → Type 0) → List ℕ → Option (List ℕ) → List (List ℕ)
-    → List (List ℕ) → Type 0
+-- Why the reading ended after `texts` and before `rest`; the numbers count lines, Write and Memory tell nothing.
+abbrev pub Because : (outcome : Outcome) (refuses : List (List ℕ) → List ℕ → Type 0) (bytes : List ℕ)
+    (left : Option (List ℕ)) (texts rest : List (List ℕ)) → Type 0
 Because Whole refuses bytes left texts rest = ((lined bytes).end ≡ whole) × (rest ≡ [])
 Because (Unfinished n) refuses bytes left texts rest = ((lined bytes).end ≡ unfinished) × (rest ≡ [])
     × (n ≡ length texts + 1)
@@ -26,26 +21,22 @@ Because Read refuses bytes left texts rest =
 Because Write refuses bytes left texts rest = Unit {0}
 Because Memory refuses bytes left texts rest = Unit {0}
 
--- The output `back` wasn't written. `back` is empty unless the sink failed or memory ran out.
-abbrev pub Unwritten : Outcome → List ℕ → Type 0
+-- Output is unwritten only if the sink failed or memory ran out.
+abbrev pub Unwritten : (outcome : Outcome) (back : List ℕ) → Type 0
 Unwritten Write back = Unit {0}
 Unwritten Memory back = Unit {0}
 Unwritten _ back = back ≡ []
 
--- The taker took the lines `texts`, and not the lines `rest` after them. If the outcome is Memory, the taker may have
--- taken the first of `rest` in part.
-abbrev pub HasTaken : Outcome → (List (List ℕ) → Type 0) → (List (List ℕ) → List ℕ → Type 0) → List (List ℕ)
-    → List (List ℕ) → Type 0
+-- These lines were taken; with Memory, maybe a part of the next line too.
+abbrev pub HasTaken : (outcome : Outcome) (took : List (List ℕ) → Type 0) (broke : List (List ℕ) → List ℕ → Type 0)
+    (texts rest : List (List ℕ)) → Type 0
 HasTaken Memory took broke texts rest =
     took texts ⊎ ((text : List ℕ) × (later : List (List ℕ)) × (rest ≡ text ∷ later) × broke texts text)
 HasTaken _ took broke texts rest = took texts
 
--- The reading of `bytes`, of which the source has `left` left, ended with `outcome`. The taker took the first of the
--- whole lines within the limits, and `Because` says why it took no more. A first part of the taker's output for these
--- lines was written, which took the sink's bytes from `before` to `after`. All of this output was written unless the
--- sink failed or memory ran out.
+-- The reading of `bytes` ended with `outcome`; output is missing only if the sink failed or memory ran out.
 pub record Told (outcome : Outcome) (took : List (List ℕ) → Type 0) (broke refuses : List (List ℕ) → List ℕ → Type 0)
-    (output : List (List ℕ) → List ℕ) (bytes : List ℕ) (left before after : Option (List ℕ)) : Type 0 where
+    (output : List (List ℕ) → List ℕ) (bytes : List ℕ) (left old new : Option (List ℕ)) : Type 0 where
   pub texts : List (List ℕ)
   pub rest : List (List ℕ)
   pub parts : (lined bytes).texts ≡ texts ++ rest
@@ -54,5 +45,5 @@ pub record Told (outcome : Outcome) (took : List (List ℕ) → Type 0) (broke r
   pub front : List ℕ
   pub back : List ℕ
   pub output_is : output texts ≡ front ++ back
-  pub written : Appends before after front
+  pub written : Appends old new front
   pub unwritten : Unwritten outcome back

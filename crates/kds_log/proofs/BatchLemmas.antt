@@ -1,4 +1,4 @@
--- A batch (`beginning`) is the longest prefix of the records that is within its limits.
+-- A batch is the longest prefix of the records that is within its limits.
 use Rattle.std.proofs.Common.{◌≡◌, ◌≢◌, ℕ, zero, suc, ◌-◌, ◌≤◌, Bool, true, false, List, [], ◌∷◌, ◌++◌, length, map}
 use Rattle.std.proofs.Common.{refl, sym, ap, subst, ◌∙◌, arith}
 use Rattle.std.specs.Prelude.{nat_le, if◌then◌else◌, IfOk, Result, Ok, Err}
@@ -8,7 +8,7 @@ use Rattle.kds_defs.specs.declared.limits.TheConstants.{BATCH_BYTES}
 use Rattle.kds_defs.specs.declared.reply.Stored.{Stored}
 use Rattle.kds_log.specs.Log.{FirstFits, IsWithin, IsPrefix}
 
--- The record `r`, followed by the records `rs`, if `b` is true, and no records otherwise.
+-- The record followed by `rs` if `b` is true, and no records otherwise.
 abbrev chosen : Bool → Logged → List Logged → List Logged
 chosen b r rs = if b then r ∷ rs else []
 
@@ -17,7 +17,6 @@ prefix_more : (b : Bool) (r : Logged) (front rs : List Logged) → IsPrefix fron
 prefix_more true r front rs h = (h.0, ap (λ xs. r ∷ xs) h.1)
 prefix_more false r front rs h = (r ∷ rs, refl)
 
--- The batch of the records `rs` is a prefix of `rs`.
 pub prefix : (limit room : ℕ) (rs : List Logged) → IsPrefix (beginning limit room rs) rs
 prefix zero room rs = (rs, refl)
 prefix (suc limit) room [] = ([], refl)
@@ -29,7 +28,6 @@ within_more : (b : Bool) (limit room : ℕ) (r : Logged) (front : List Logged) �
 within_more true limit room r front e h = let f = le_so r.bytes room e in (omega (arith, h.0), omega (arith, h.1, f))
 within_more false limit room r front e h = (omega arith, omega arith)
 
--- The batch of some records is within its limits (`IsWithin`).
 pub within : (limit room : ℕ) (rs : List Logged) → IsWithin limit room (beginning limit room rs)
 within zero room rs = (omega arith, omega arith)
 within (suc limit) room [] = (omega arith, omega arith)
@@ -37,7 +35,6 @@ within (suc limit) room (r ∷ rs) =
     within_more (nat_le r.bytes room) limit room r (beginning limit (room - r.bytes) rs) refl
     (within limit (room - r.bytes) rs)
 
--- If two lists that aren't empty are equal, their first records are equal.
 same_head : (r x : Logged) (rs xs : List Logged) → r ∷ rs ≡ x ∷ xs → r ≡ x
 same_head r x rs xs h = cc
 
@@ -54,7 +51,6 @@ longest_more true limit room r front ours e h rest =
     omega (arith, rest inner)
 longest_more false limit room r front ours e h rest = let f = above_so r.bytes room e in absurd (omega (arith, h.1, f))
 
--- A prefix of the records that is within the limits isn't longer than the batch (`beginning`).
 pub no_longer : (limit room : ℕ) (rs front : List Logged) → IsPrefix front rs → IsWithin limit room front
     → length front ≤ length (beginning limit room rs)
 no_longer limit room rs [] p h = omega arith
@@ -70,7 +66,6 @@ no_longer (suc limit) room (r ∷ rs) (x ∷ front) p h =
 
 -- ---- A batch that isn't empty
 
--- If the limit on the number of records isn't 0, and the first record fits, the batch isn't empty.
 pub some_taken : (limit room : ℕ) (rs : List Logged) → 1 ≤ limit → FirstFits room rs → beginning limit room rs ≢ []
 some_taken limit room [] some le_so = absurd le_so
 some_taken zero room (r ∷ rs) some le_so = absurd (omega arith)
@@ -84,14 +79,11 @@ none_stored : (rs : List Logged) → map stored rs ≡ [] → rs ≡ []
 none_stored [] none = refl
 none_stored (r ∷ rs) none = absurd cc
 
--- If the limit on the number of records isn't 0, and the first record fits, the batch as a read returns it isn't empty.
 pub some_stored : (limit room : ℕ) (rs : List Logged) → 1 ≤ limit → FirstFits room rs
     → map stored (beginning limit room rs) ≢ []
 some_stored limit room rs some le_so none =
     some_taken limit room rs some le_so (none_stored (beginning limit room rs) none)
 
--- If a call succeeds and returns the batch of the records `rs`, this batch isn't empty, provided that the limit isn't 0
--- and the first record fits.
 pub some_answered : {E : Type 0} (r : Result (List Stored) E) (limit : ℕ) (rs : List Logged)
     → IfOk r (λ b. b ≡ map stored (beginning limit BATCH_BYTES rs)) → 1 ≤ limit → FirstFits BATCH_BYTES rs
     → IfOk r (λ b. b ≢ [])

@@ -1,5 +1,4 @@
--- The records of a log stay in order if a record is appended and if records are trimmed, and the first of records in
--- order has the least sequence number.
+-- A log stays in order when a record is appended or trimmed, so its first record has the least sequence number.
 use Rattle.std.proofs.Common.{ℕ, ◌<◌, ◌≤◌, Bool, true, false, List, [], ◌∷◌, ◌++◌, Option, Some, None, refl}
 use Rattle.std.proofs.Common.{arith}
 use Rattle.std.specs.Prelude.{cond, IfSome}
@@ -20,7 +19,6 @@ in_order_choice : (b : Bool) (r : Logged) (rs : List Logged) → AllByRecursion 
 in_order_choice true r rs h g = (h, g)
 in_order_choice false r rs h g = g
 
--- Records in order stay in order if some of them are filtered out.
 pub in_order-filter : (p : Logged → Bool) (rs : List Logged) → AreInOrder rs → AreInOrder (filter p rs)
 in_order-filter p [] h = tt
 in_order-filter p (r ∷ rs) h =
@@ -28,8 +26,6 @@ in_order-filter p (r ∷ rs) h =
 
 -- ---- The log
 
--- Let the sequence number of the record `x` be above the last one of the log. If `x` arrived no earlier than the record
--- `r` of the log, then `r` is before `x` (`IsBefore`).
 up_to_before : (last : Option ℕ) (r x : Logged) → IfSome last (λ n. n < x.seq) → IsUpTo last r → r.arrival ≤ x.arrival
     → IsBefore r x
 up_to_before None r x above up arrival = absurd up
@@ -39,23 +35,19 @@ up_to_more : (last : Option ℕ) (r x : Logged) → IfSome last (λ n. n < x.seq
 up_to_more None r x above up = absurd up
 up_to_more (Some n) r x above up = omega arith
 
--- A log stays orderly (`IsOrderly`) if a record is appended whose sequence number is above the log's last one, and
--- which arrived no earlier than the records of the log.
 pub orderly-append : (log : LogValue) (x : Logged) → IfSome log.last (λ n. n < x.seq)
     → AllByRecursion (λ r. r.arrival ≤ x.arrival) log.kept → IsOrderly log
     → IsOrderly (record { kept = log.kept ++ x ∷ []; last = Some x.seq })
 orderly-append log x above arrival orderly =
-    let before = all_both (IsUpTo log.last) (λ r. r.arrival ≤ x.arrival) (λ r. IsBefore r x)
+    let earlier = all_both (IsUpTo log.last) (λ r. r.arrival ≤ x.arrival) (λ r. IsBefore r x)
     (λ r up early. up_to_before log.last r x above up early) log.kept orderly.numbers arrival in
     record {
-      order = in_order-append log.kept x orderly.order before;
+      order = in_order-append log.kept x orderly.order earlier;
       numbers = all_append (IsUpTo (Some x.seq)) log.kept (x ∷ [])
           (all_weaker (IsUpTo log.last) (IsUpTo (Some x.seq)) (λ r up. up_to_more log.last r x above up)
           log.kept orderly.numbers) (omega arith, tt);
     }
 
--- A log stays orderly (`IsOrderly`) if it loses the records that arrived at a time below `floor` and those with a
--- sequence number below `position`.
 pub orderly-left : (log : LogValue) (floor position : ℕ) → IsOrderly log
     → IsOrderly (record { kept = left_among floor position log.kept; last = log.last })
 orderly-left log floor position orderly = record {
@@ -73,7 +65,6 @@ all_numbers : (n : ℕ) (rs : List Logged) → AllByRecursion (λ r. n < r.seq) 
 all_numbers n [] h = tt
 all_numbers n (r ∷ rs) h = let first : n < r.seq = h.0 in (omega arith, all_numbers n rs h.1)
 
--- If records are in order, the sequence number of the first one is the least of their sequence numbers.
 pub first_is_least : (rs : List Logged) → AreInOrder rs → IsLeast (numbers_of rs) (first_number rs)
 first_is_least [] h = refl
 first_is_least (r ∷ rs) h = (
@@ -81,12 +72,10 @@ first_is_least (r ∷ rs) h = (
   (
     omega arith,
     all_numbers r.seq rs
-        (all_weaker (IsBefore r) (λ x. r.seq < x.seq) (λ x before. before.0) rs h.0),
+        (all_weaker (IsBefore r) (λ x. r.seq < x.seq) (λ x is_before. is_before.0) rs h.0),
   ),
 )
 
--- Of the records of an orderly log that are left and arrived at or after `moment`, the first one has the least sequence
--- number.
 pub first_since : (moment floor position : ℕ) (log : LogValue) → IsOrderly log
     → IsLeast (numbers_of (since moment (left_among floor position log.kept)))
     (first_number (since moment (left_among floor position log.kept)))

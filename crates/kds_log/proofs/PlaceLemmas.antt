@@ -1,5 +1,4 @@
--- If records are in order, those that are left for a reader come after all others. A record is left if it arrived at a
--- time at or above a floor (it isn't trimmed) and its sequence number is at or above a position.
+-- In records in order, those left for a reader (not trimmed, from a position on) come after all others.
 use Rattle.std.proofs.Common.{◌≡◌, ℕ, zero, suc, ◌<◌, ◌≤◌, Bool, true, false, List, [], ◌∷◌, length, get_or, drop, map}
 use Rattle.std.proofs.Common.{refl, sym, ap, ◌∙◌, arith}
 use Rattle.std.specs.Prelude.{cond, not, nat_le, max}
@@ -12,8 +11,7 @@ use Rattle.kds_defs.specs.Records.{Logged, is_left, left_among, logged}
 use Rattle.kds_defs.specs.declared.reply.Stored.{Stored}
 use Rattle.kds_log.specs.Log.{IsBefore, AreInOrder, since}
 
--- Whether the record `x` isn't left for a reader: it arrived at a time below `floor`, or its sequence number is below
--- `position`.
+-- Whether the record isn't left for a reader: it is trimmed, or below `position`.
 abbrev pub is_past : ℕ → ℕ → Stored → Bool
 is_past floor position x = not (is_left floor position (logged x))
 
@@ -31,7 +29,7 @@ all_at P [] j d h lt = absurd (omega arith)
 all_at P (x ∷ xs) zero d h lt = h.0
 all_at P (x ∷ xs) (suc j) d h lt = all_at P xs j d h.1 (omega arith)
 
--- Neither the sequence number nor the time of arrival of the record `b` is below that of the record `a`.
+-- The record `b` is below `a` neither in sequence number nor in time of arrival.
 abbrev Follows : Stored → Stored → Type 0
 Follows a b = (a.seq ≤ b.seq) × (a.arrival ≤ b.arrival)
 
@@ -40,14 +38,13 @@ in_order-at : (xs : List Stored) (i j : ℕ) (d : Stored) → AreInOrder (map lo
 in_order-at [] i j d order le lt = absurd (omega arith)
 in_order-at (x ∷ xs) zero zero d order le lt = (omega arith, omega arith)
 in_order-at (x ∷ xs) zero (suc j) d order le lt =
-    let before : IsBefore (logged x) (logged (get_or xs j d)) =
+    let is_before : IsBefore (logged x) (logged (get_or xs j d)) =
     all_at (IsBefore (logged x)) xs j d order.0 (omega arith) in
-    let first : x.seq < (get_or xs j d).seq = before.0 in
-    (omega arith, before.1)
+    let first : x.seq < (get_or xs j d).seq = is_before.0 in
+    (omega arith, is_before.1)
 in_order-at (x ∷ xs) (suc i) zero d order le lt = absurd (omega arith)
 in_order-at (x ∷ xs) (suc i) (suc j) d order le lt = in_order-at xs i j d order.1 (omega arith) (omega arith)
 
--- If records are in order, all those that aren't left come before all those that are left.
 pub partitioned : (floor position : ℕ) (xs : List Stored) → AreInOrder (map logged xs)
     → IsPartitionedBy (is_past floor position) xs
 partitioned floor position xs order i j d le lt h =
@@ -65,8 +62,6 @@ all_left floor position (x ∷ xs) h =
     ap (λ (b : Bool). cond b (logged x ∷ rest) rest) (not-false _ (h 0 x (omega arith)))
     ∙ ap (λ rs. logged x ∷ rs) (all_left floor position xs (λ k d lt. h (suc k) d (omega arith)))
 
--- If the records before the index `i` aren't left, and all from `i` on are, then the left records are those from `i`
--- on.
 pub left_from : (floor position : ℕ) (xs : List Stored) (i : ℕ)
     → IsPartitionPoint (λ y. is_past floor position y ≡ true) (λ y. is_past floor position y ≡ false) xs i
     → left_among floor position (map logged xs) ≡ map logged (drop i xs)
@@ -80,7 +75,6 @@ left_from floor position (x ∷ xs) (suc i) h =
       (λ k d low lt. h.1 (suc k) d (omega arith) (omega arith)),
     )
 
--- If the records `x ∷ xs` are in order and `x` is left, all of them are left.
 left_at_first : (floor position : ℕ) (x : Stored) (xs : List Stored) → AreInOrder (map logged (x ∷ xs))
     → is_past floor position x ≡ false → left_among floor position (map logged (x ∷ xs)) ≡ map logged (x ∷ xs)
 left_at_first floor position x xs order h =
@@ -88,7 +82,6 @@ left_at_first floor position x xs order h =
     all_left floor position (x ∷ xs)
     (λ k d lt. false_from_ne_true _ (λ late. absurd (apart _ (past 0 k d (omega arith) lt late) h)))
 
--- If the records `xs` are in order and the record at the index 0 is left, all of `xs` are left.
 pub left_at_front : (floor position : ℕ) (x : Stored) (xs : List Stored) → AreInOrder (map logged xs)
     → x ≡ get_or xs 0 x → is_left floor position (logged x) ≡ true
     → left_among floor position (map logged xs) ≡ map logged xs
@@ -109,8 +102,7 @@ is_late : (floor moment : ℕ) (r : Logged) → cond (is_left floor 0 r) (nat_le
     ≡ is_left (max floor moment) 0 r
 is_late floor moment r = grind (arith, nat_tests)
 
--- The records that are left at the floor `floor` and arrived at or after the time `moment` are those that are left at
--- the greater one of `floor` and `moment`.
+-- A trim floor and a starting time act as one floor, the greater of both.
 pub since_left : (floor moment : ℕ) (rs : List Logged)
     → since moment (left_among floor 0 rs) ≡ left_among (max floor moment) 0 rs
 since_left floor moment [] = refl

@@ -1,4 +1,4 @@
--- A batch that the code collects record by record is the batch of the definition (`beginning`).
+-- A batch that the code collects record by record is the batch of the definition.
 use Rattle.std.proofs.Common.{◌≡◌, ℕ, ◌+◌, ◌-◌, ◌<◌, ◌≤◌, List, [], ◌∷◌, ◌++◌, None, length, get_or, drop, map, sym, ap}
 use Rattle.std.proofs.Common.{◌∙◌}
 use Rattle.std.proofs.lemmas.List.{at_drop_more, drop_all, append-nil, append_assoc}
@@ -8,30 +8,25 @@ use Rattle.kds_defs.specs.declared.reply.Stored.{Stored}
 use Rattle.kds_defs.proofs.Batches.{beginning_one, beginning_none}
 use Rattle.kds_log.specs.Log.{first_number}
 
--- The records of `xs` from the index `i` on.
+-- The records from the index `i` on.
 abbrev pub ahead : List Stored → ℕ → List Logged
 ahead xs i = map logged (drop i xs)
 
--- If `x` is the record at the index `i`, the records from `i` on are `x`, followed by the records from `i + 1` on.
 pub ahead_more : (xs : List Stored) (i : ℕ) (x : Stored) → i < length xs → x ≡ get_or xs i x
     → ahead xs i ≡ logged x ∷ ahead xs (i + 1)
 ahead_more xs i x lt is =
     at_drop_more (λ ys. map logged ys) xs i x lt
     ∙ ap (λ (y : Stored). logged y ∷ ahead xs (i + 1)) (sym is)
 
--- If the list ends before the index `i`, there are no records from `i` on.
 pub ahead_none : (xs : List Stored) (i : ℕ) → length xs ≤ i → ahead xs i ≡ []
 ahead_none xs i le = ap (map logged) (drop_all i xs le)
 
 -- ---- Batches
 
--- The records `batch` that were collected so far, followed by the batch of the records `rest`, are the whole batch
--- `whole`. From `rest`, at most `left` records with at most `room` bytes may still be taken.
+-- The records collected, followed by the batch of `rest` within what is left of the limits, are the whole batch.
 abbrev pub Grows : List Stored → ℕ → ℕ → List Logged → List Stored → Type 0
 Grows batch left room rest whole = batch ++ map stored (beginning left room rest) ≡ whole
 
--- Suppose that the next record `x` fits into the batch and is added to it. Then the collected records, followed by the
--- batch of the records after `x`, are still the whole batch (`Grows`).
 pub grows_by : (xs : List Stored) (i : ℕ) (x : Stored) → i < length xs → x ≡ get_or xs i x
     → (batch : List Stored) (left room bytes : ℕ) (whole : List Stored) → (left ≡ 0 → ⊥) → bytes ≡ (logged x).bytes
     → bytes ≤ room
@@ -47,7 +42,6 @@ grows_by xs i x within is batch left room bytes whole some same small h =
     append_assoc batch (x ∷ []) (map stored (beginning (left - 1) (room - bytes) rest))
     ∙ ap (λ taken. batch ++ map stored taken) (sym one) ∙ h
 
--- When no record comes any more, the collected records are the whole batch.
 pub grows_all : (xs : List Stored) (i : ℕ) (batch : List Stored) (left room : ℕ) (whole : List Stored) → length xs ≤ i
     → Grows batch left room (ahead xs i) whole → batch ≡ whole
 grows_all xs i batch left room whole le h =
@@ -58,6 +52,5 @@ grows_all xs i batch left room whole le h =
 -- ---- The first record from an index on
 
 module _ (xs : List Stored) (i : ℕ) (rs : List Logged) (is_rest : rs ≡ ahead xs i) where
-  -- If the list ends before the index `i`, there is no first sequence number from `i` on.
   pub no_number : length xs ≤ i → None ≡ first_number rs
   no_number le = sym (ap first_number (is_rest ∙ ahead_none xs i le))

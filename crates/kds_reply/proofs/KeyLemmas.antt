@@ -1,4 +1,4 @@
--- The partition keys in the journal of each history are valid UTF-8, and so are those of the records in answers.
+-- The partition keys in journals of histories and in answers are valid UTF-8.
 use Rattle.std.proofs.Common.{subst, ℕ, zero, suc, ◌-◌, List, [], ◌∷◌, map, Bool, true, false, nat_le, ◌==◌, ◌&&◌}
 use Rattle.std.proofs.Common.{if◌then◌else◌}
 use Rattle.std.specs.List.{AllByRecursion}
@@ -34,24 +34,24 @@ all-if P false xs ys h k = k
 
 -- ---- Partition keys in lines and records
 
--- The partition key in the line `line` is valid UTF-8.
+-- The partition key in the line is valid UTF-8.
 abbrev HasTextKey : Line → Type 0
 HasTextKey line = IsUtf8 line.key
 
--- The partition key of the record `r` is valid UTF-8.
+-- The record's partition key is valid UTF-8.
 abbrev IsKeptText : Logged → Type 0
 IsKeptText r = IsUtf8 r.key
 
--- The partition key in each line of the journal `log` is valid UTF-8.
+-- All partition keys in the journal are valid UTF-8.
 abbrev HasTextKeys : Journal → Type 0
 HasTextKeys log = AllByRecursion HasTextKey log
 
-record_text : (line : Line) (e : Entry) (s sh : ℕ) (before : List Logged) → HasTextKey line
-    → AllByRecursion IsKeptText before
-    → AllByRecursion IsKeptText (records_after line e s sh before)
-record_text line (entry.Put stream shard seq hash bytes key_bytes) s sh before h k =
-    all-if IsKeptText ((stream == s) && (shard == sh)) _ before (all_append IsKeptText before _ k (h, tt)) k
-record_text line _ s sh before h k = k
+record_text : (line : Line) (e : Entry) (s sh : ℕ) (old : List Logged) → HasTextKey line
+    → AllByRecursion IsKeptText old
+    → AllByRecursion IsKeptText (records_after line e s sh old)
+record_text line (entry.Put stream shard seq hash bytes key_bytes) s sh old h k =
+    all-if IsKeptText ((stream == s) && (shard == sh)) _ old (all_append IsKeptText old _ k (h, tt)) k
+record_text line _ s sh old h k = k
 
 records_text : (log : Journal) (s sh : ℕ) → HasTextKeys log → AllByRecursion IsKeptText (records log s sh)
 records_text [] s sh h = tt
@@ -81,25 +81,22 @@ batch_text log c s sh position limit h =
 
 -- ---- The lines and the answer of a command
 
--- The partition key in each line that a lawful command adds is valid UTF-8.
-line_text : (log : Journal) (c by : ℕ) (what : Command) (line : Line) → IsAdded log c by what line
-    → IsLawfulCommand what → HasTextKey line
-line_text log c by _ _ (Alone _ _ _ (Puts name item s named fits)) lawful = lawful.1.key.text
-line_text log c by _ _ (Stored_one name items before s n item among) lawful =
+line_text : (log : Journal) (c actor : ℕ) (command : Command) (line : Line) → IsAdded log c actor command line
+    → IsLawfulCommand command → HasTextKey line
+line_text log c actor _ _ (Alone _ _ _ (Puts name item s named fits)) lawful = lawful.1.key.text
+line_text log c actor _ _ (Stored_one name items old s n item among) lawful =
     (of_all IsItem items item among lawful.1.each).key.text
-line_text log c by _ _ _ lawful = IsUtf8-nil
+line_text log c actor _ _ _ lawful = IsUtf8-nil
 
--- If the partition keys in the journal are valid UTF-8, those in the answer to a command are printed unchanged
--- (`ArePrintedWhole`).
-answer_text : (log : Journal) (c by : ℕ) (what : Command) (lines : List Line) (answer : Result Reply Refusal)
-    → Outcome log c by what lines answer
+answer_text : (log : Journal) (c actor : ℕ) (command : Command) (lines : List Line) (answer : Result Reply Refusal)
+    → Outcome log c actor command lines answer
     → HasTextKeys log → ArePrintedWhole answer
-answer_text log c by _ _ _ (Answers _ _ (Gets iter limit rs next late xs read)) h =
+answer_text log c actor _ _ _ (Answers _ _ (Gets iter limit rs next late xs read)) h =
     subst (AllByRecursion IsPrintedWhole) read.are
     (batch_text log read.clock read.stream read.shard read.position read.limit h)
-answer_text log c by _ _ _ (Adds _ _ _ (Reads t position limit T place ended begun same)) h =
+answer_text log c actor _ _ _ (Adds _ _ _ (Reads t position limit T place ended begun same)) h =
     batch_text log c T.key.stream T.key.shard (reach T) limit h
-answer_text log c by _ _ _ _ h = tt
+answer_text log c actor _ _ _ _ h = tt
 
 -- ---- The answers of a history
 
@@ -107,7 +104,6 @@ journal_text : (h : List Turn) → IsHistory h → HasTextKeys (journal h)
 journal_text h is = each_journal HasTextKey IsLawful (λ log c turn lawful line added.
     line_text log c turn.by turn.what line added lawful.1) h is
 
--- The partition keys in the answer to a lawful turn after a history are printed unchanged (`ArePrintedWhole`).
 pub answers_text : (h : List Turn) (turn : Turn) → IsHistory (turn ∷ h) → ArePrintedWhole (answer h turn)
 answers_text h turn is =
     answer_text (journal h) (clock (turn ∷ h)) turn.by turn.what _ _

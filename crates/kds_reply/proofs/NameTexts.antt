@@ -15,6 +15,5 @@ bytes_ascii [] h i = omega arith
 bytes_ascii (b ∷ text) h zero = byte_small b (and_parts (is_name_byte b) (list_all is_name_byte text) h).0
 bytes_ascii (b ∷ text) h (suc i) = bytes_ascii text (and_parts (is_name_byte b) (list_all is_name_byte text) h).1 i
 
--- A text that passes the test for the name of a stream is valid UTF-8.
 pub name_is_text : (name : List ℕ) → is_name name ≡ true → IsUtf8 name
 name_is_text name h = IsUtf8-from_ascii name (bytes_ascii name (and_parts _ (list_all is_name_byte name) h).1)

@@ -1,4 +1,4 @@
--- No reply that the code builds as a tree of JSON values contains a floating-point number.
+-- No reply that the code builds as a tree of JSON values has a floating-point number.
 use Rattle.std.proofs.Common.{◌≡◌, ℕ, List, [], ◌∷◌, Bool, false, Option, Some, None, refl}
 use Rattle.std.specs.Prelude.{option_map}
 use Rattle.serde_json.specs.Data.{Data, string, Members}
@@ -14,7 +14,7 @@ use Rattle.kds_reply.specs.Shards.{sequence_data, shard_data, shards_data}
 use Rattle.kds_reply.specs.Streams.{streams_data, description_data, description_summary_data, described_data}
 use Rattle.kds_reply.specs.Streams.{summary_data, scaled_data}
 
--- The JSON value `d` contains no floating-point number.
+-- The JSON value has no floating-point number.
 abbrev IsPlain : Data → Type 0
 IsPlain d = has_float d ≡ false
 
@@ -45,7 +45,6 @@ shard_plain s =
     (member_plain id_data _ s.parent _ (λ n. refl)
     (rw (sequence_plain s.start s.end) refl)))
 
--- The reply to ListShards contains no floating-point number.
 pub shards_plain : (shards : List Shard) (next : Option Page) → IsPlain (shards_data shards next)
 unfolding shards_data
 shards_plain shards next =
@@ -53,7 +52,6 @@ shards_plain shards next =
 
 -- ---- Replies on streams
 
--- The reply to ListStreams contains no floating-point number.
 pub streams_plain : (names : List (List ℕ)) (more : Bool) → IsPlain (streams_data names more)
 unfolding streams_data
 streams_plain names more = rw (list_plain string names (λ name. refl)) refl
@@ -66,17 +64,14 @@ description_summary_plain : (about : About) (open_shards : ℕ) → IsPlain (des
 unfolding description_summary_data
 description_summary_plain about open_shards = refl
 
--- The reply to DescribeStream contains no floating-point number.
 pub described_plain : (about : About) (shards : List Shard) (more : Bool) → IsPlain (described_data about shards more)
 unfolding described_data
 described_plain about shards more = rw (description_plain about shards more) refl
 
--- The reply to DescribeStreamSummary contains no floating-point number.
 pub summary_plain : (about : About) (open_shards : ℕ) → IsPlain (summary_data about open_shards)
 unfolding summary_data
 summary_plain about open_shards = rw (description_summary_plain about open_shards) refl
 
--- The reply to UpdateShardCount contains no floating-point number.
-pub scaled_plain : (name : List ℕ) (before target : ℕ) → IsPlain (scaled_data name before target)
+pub scaled_plain : (name : List ℕ) (old target : ℕ) → IsPlain (scaled_data name old target)
 unfolding scaled_data
-scaled_plain name before target = refl
+scaled_plain name old target = refl

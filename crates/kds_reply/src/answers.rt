@@ -1,5 +1,5 @@
 //! Turns an answer of the stream service into an HTTP status and a body.
-ghost use Rattle.std.specs.Prelude.{◌≡◌, ◌++◌, IfOk, OnOk, false, true};
+ghost use Rattle.std.specs.Prelude.{◌≡◌, ◌++◌, take, vec_len, IfOk, OnOk, false, true};
 ghost use Rattle.serde_json.specs.View.{view};
 ghost use Rattle.serde_json.specs.Written.{compact_text, has_float};
 ghost use Rattle.kds_defs.specs.Kinds.{is_service_answer, is_service_reply};
@@ -24,7 +24,8 @@ const DONE: u16 = 200;
 /// floating-point numbers. If `to` is empty, the text is moved into `to` and not copied.
 fn add_value(to: &mut Vec<u8>, alloc: Global, value: &Value) -> Result<(), Memory>
     requires { has_float (view value.now) ≡ false }
-    ensures { OnOk result (to.new.items ≡ to.old.items ++ compact_text (view value.now)) }
+    ensures front { take (vec_len to.old) to.new.items ≡ to.old.items }
+    ensures ok { OnOk result (to.new.items ≡ to.old.items ++ compact_text (view value.now)) }
 {
     let text = value.to_vec(alloc)?;
     if to.is_empty() {
@@ -36,7 +37,8 @@ fn add_value(to: &mut Vec<u8>, alloc: Global, value: &Value) -> Result<(), Memor
 
 /// Appends the body of the reply to ListStreams.
 fn add_streams(to: &mut Vec<u8>, alloc: Global, names: &[Name], more: bool) -> Result<(), Memory>
-    ensures { OnOk result (to.new.items ≡ to.old.items ++ compact_text (streams_data names.now more)) }
+    ensures front { take (vec_len to.old) to.new.items ≡ to.old.items }
+    ensures ok { OnOk result (to.new.items ≡ to.old.items ++ compact_text (streams_data names.now more)) }
 {
     let value = streams_value(alloc, names, more)?;
     add_value(to, alloc, &value)
@@ -50,7 +52,8 @@ fn add_described(
     shards: &[Shard],
     more: bool,
 ) -> Result<(), Memory>
-    ensures { OnOk result (to.new.items ≡ to.old.items ++ compact_text (described_data about.now shards.now more)) }
+    ensures front { take (vec_len to.old) to.new.items ≡ to.old.items }
+    ensures ok { OnOk result (to.new.items ≡ to.old.items ++ compact_text (described_data about.now shards.now more)) }
 {
     let value = described_value(alloc, about, shards, more)?;
     add_value(to, alloc, &value)
@@ -63,7 +66,8 @@ fn add_summary(
     about: &About,
     open_shards: u32,
 ) -> Result<(), Memory>
-    ensures { OnOk result (to.new.items ≡ to.old.items ++ compact_text (summary_data about.now open_shards)) }
+    ensures front { take (vec_len to.old) to.new.items ≡ to.old.items }
+    ensures ok { OnOk result (to.new.items ≡ to.old.items ++ compact_text (summary_data about.now open_shards)) }
 {
     let value = summary_value(alloc, about, open_shards)?;
     add_value(to, alloc, &value)
@@ -77,7 +81,8 @@ fn add_scaled(
     before: u32,
     target: u32,
 ) -> Result<(), Memory>
-    ensures { OnOk result (to.new.items ≡ to.old.items ++ compact_text (scaled_data name.now before target)) }
+    ensures front { take (vec_len to.old) to.new.items ≡ to.old.items }
+    ensures ok { OnOk result (to.new.items ≡ to.old.items ++ compact_text (scaled_data name.now before target)) }
 {
     let value = scaled_value(alloc, name, before, target)?;
     add_value(to, alloc, &value)
@@ -90,7 +95,8 @@ fn add_shards(
     shards: &[Shard],
     next: &Option<Page>,
 ) -> Result<(), Memory>
-    ensures { OnOk result (to.new.items ≡ to.old.items ++ compact_text (shards_data shards.now next.now)) }
+    ensures front { take (vec_len to.old) to.new.items ≡ to.old.items }
+    ensures ok { OnOk result (to.new.items ≡ to.old.items ++ compact_text (shards_data shards.now next.now)) }
 {
     let value = shards_value(alloc, shards, next)?;
     add_value(to, alloc, &value)
@@ -99,7 +105,8 @@ fn add_shards(
 /// Appends the body of the reply to an accepted command. The body of `Reply::Done` is empty.
 fn add_body(to: &mut Vec<u8>, alloc: Global, reply: &Reply) -> Result<(), Memory>
     requires { is_service_reply reply.now ≡ true }
-    ensures { OnOk result (to.new.items ≡ to.old.items ++ reply_text reply.now) }
+    ensures front { take (vec_len to.old) to.new.items ≡ to.old.items }
+    ensures ok { OnOk result (to.new.items ≡ to.old.items ++ reply_text reply.now) }
 {
     match reply {
         Reply::Done => Ok(()),
@@ -139,10 +146,12 @@ fn add_body(to: &mut Vec<u8>, alloc: Global, reply: &Reply) -> Result<(), Memory
 
 /// Appends the body of an answer, and returns its HTTP status: 200, or 400 for a refusal (Kinesis API Reference,
 /// Response Elements and Errors of each action). Precondition: the answer is one of the stream service, not an answer
-/// to a command on leases. If memory runs out, the error is `Memory`, and a part of the body may have been appended.
+/// to a command on leases. If memory runs out, the error is `Memory`, and a part of the body may have been appended. In
+/// either case the bytes that `to` had before are unchanged.
 pub fn add_reply(alloc: Global, answer: &Answer, to: &mut Vec<u8>) -> Result<u16, Memory>
     requires { is_service_answer answer.now ≡ true }
     ensures status { IfOk result (λ status. status ≡ (reply_of answer.now).0) }
+    ensures front { take (vec_len to.old) to.new.items ≡ to.old.items }
     ensures body { OnOk result (to.new.items ≡ to.old.items ++ (reply_of answer.now).1) }
 {
     match answer {

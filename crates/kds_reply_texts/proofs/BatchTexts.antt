@@ -1,4 +1,4 @@
--- The pieces that the code appends for a reply to GetRecords make the text of this reply.
+-- The pieces appended for a reply to GetRecords make its text.
 use Rattle.std.proofs.Common.{◌≡◌, ℕ, List, ◌++◌, Some, None, decimal, codes, append_assoc, ◌∙◌}
 use Rattle.json.specs.Print.{escape, escape_byte}
 use Rattle.serde_json.specs.Data.{Data, unsigned, null, number, object, string, no_members, member}
@@ -11,12 +11,10 @@ use Rattle.kds_reply_texts.specs.Bodies.{list_data}
 use Rattle.kds_reply_texts.specs.Children.{child_data}
 use Rattle.kds_reply_texts.specs.Records.{record_data, records_data}
 
-in_pieces : (a b c d e f g : List ℕ)
+pub in_pieces : (a b c d e f g : List ℕ)
     → (((((a ++ b) ++ c) ++ d) ++ e) ++ f) ++ g ≡ a ++ (b ++ (c ++ (d ++ (e ++ (f ++ g)))))
 in_pieces a b c d e f g = simp append_assoc
 
--- The pieces of a reply to GetRecords with a next iterator make the text of its object, whatever the values of its
--- members are.
 opened : (behind : ℕ) (token : List ℕ) (records : Data)
     → codes "{\"MillisBehindLatest\":" ++ (decimal behind ++ (codes ",\"NextShardIterator\":\"" ++ (escape token
     ++ (codes "\",\"Records\":" ++ (compact_text records ++ codes "}")))))
@@ -25,8 +23,6 @@ opened : (behind : ℕ) (token : List ℕ) (records : Data)
 unfolding escape_byte
 opened behind token records = simp append_assoc
 
--- Let `token` be the escaped token of the next iterator. The pieces that the code appends for a reply to GetRecords
--- with this iterator make the text of the reply.
 pub open_pieces : (batch : List Stored) (next : Iter) (behind : ℕ) (children : List Shard) (token : List ℕ)
     → token ≡ escape (iter_token next)
     → (((((codes "{\"MillisBehindLatest\":" ++ decimal behind) ++ codes ",\"NextShardIterator\":\"") ++ token)
@@ -41,8 +37,6 @@ open_pieces batch next behind children token is =
     (codes "\",\"Records\":") (compact_text records) (codes "}")
     ∙ opened behind (iter_token next) records)
 
--- The pieces of a reply to GetRecords at the end of a closed shard make the text of its object, whatever the values of
--- its members are.
 ended : (family : Data) (behind : ℕ) (records : Data)
     → codes "{\"ChildShards\":" ++ (compact_text family ++ (codes ",\"MillisBehindLatest\":" ++ (decimal behind
     ++ (codes ",\"NextShardIterator\":null,\"Records\":" ++ (compact_text records ++ codes "}")))))
@@ -52,8 +46,6 @@ ended : (family : Data) (behind : ℕ) (records : Data)
 unfolding escape_byte
 ended family behind records = simp append_assoc
 
--- Let `family` be the text of the array of the shard's children. The pieces that the code appends for a reply to
--- GetRecords at the end of a closed shard make the text of the reply.
 pub end_pieces : (batch : List Stored) (behind : ℕ) (children : List Shard) (family : List ℕ)
     → family ≡ compact_text (list_data child_data children)
     → (((((codes "{\"ChildShards\":" ++ family) ++ codes ",\"MillisBehindLatest\":") ++ decimal behind)

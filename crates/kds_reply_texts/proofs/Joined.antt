@@ -1,4 +1,4 @@
--- The JSON tokens that the code appends one after another for a reply are those of the reply's value.
+-- The JSON tokens appended for a reply are its value's.
 use Rattle.std.proofs.Common.{◌≡◌, ℕ, List, [], ◌∷◌, ◌++◌, refl, ap, ◌∙◌}
 use Rattle.std.specs.Prelude.{codes, decimal}
 use Rattle.std.proofs.lemmas.List.{append_assoc}
@@ -13,29 +13,20 @@ use Rattle.kds_reply_texts.specs.Bodies.{id_data, list_data, iterator_data}
 use Rattle.kds_reply_texts.specs.Children.{range_data, parents_of, child_data}
 use Rattle.kds_reply_texts.specs.Writing.{tokens_of}
 
--- If `a` and then `b` are appended to `t`, the result is `t` followed by `a` and `b`.
 pub more : {A : Type 0} (t u v a b : List A) → u ≡ t ++ a → v ≡ u ++ b → v ≡ t ++ (a ++ b)
 more t u v a b first second = second ∙ ap (λ ts. ts ++ b) first ∙ append_assoc t a b
 
--- If `a` is appended to `u`, and `u` is `t`, the result is `t` followed by `a`.
-pub added_to : {A : Type 0} (t u v a : List A) → u ≡ t → v ≡ u ++ a → v ≡ t ++ a
-added_to t u v a same first = first ∙ ap (λ ts. ts ++ a) same
-
--- If `a` is appended to `t`, and `t` is empty, the result is `a`.
 pub begun : {A : Type 0} (t u a : List A) → t ≡ [] → u ≡ t ++ a → u ≡ a
 begun t u a nothing first = first ∙ ap (λ ts. ts ++ a) nothing
 
--- If `b` is appended to `u`, and `u` is `a`, the result is `a` followed by `b`.
 pub added : {A : Type 0} (u v a b : List A) → u ≡ a → v ≡ u ++ b → v ≡ a ++ b
 added u v a b first second = second ∙ ap (λ ts. ts ++ b) first
 
--- The JSON tokens that the code appends for an error are those of the error's object.
 pub error_tokens : (name message : List ℕ)
     → begin_object ∷ key (codes "__type") ∷ string name ∷ key (codes "message") ∷ string message ∷ end_object ∷ []
     ≡ tokens_of (error_data name message)
 error_tokens name message = refl
 
--- The JSON tokens that the code appends for the reply to GetShardIterator are those of the reply's object.
 pub iterator_tokens : (i : Iter) (token : List ℕ) → token ≡ iter_token i
     → begin_object ∷ key (codes "ShardIterator") ∷ string token ∷ end_object ∷ [] ≡ tokens_of (iterator_data i)
 unfolding iterator_data
@@ -43,7 +34,6 @@ iterator_tokens i token is = rw is refl
 
 -- ---- The child shards of a shard
 
--- The JSON tokens that the code appends for a range of hash keys are those of the range's object.
 pub range_tokens : (r : Span) (end start : ℕ) → end ≡ r.end → start ≡ r.start
     → begin_object ∷ key (codes "EndingHashKey") ∷ string (decimal end) ∷ key (codes "StartingHashKey")
     ∷ string (decimal start) ∷ end_object ∷ [] ≡ tokens_of (range_data r)
@@ -53,7 +43,6 @@ range_tokens r end start is_end is_start = rw (is_end, is_start) refl
 apart_child : (r k p i e : List Token) → ((((r ++ k) ++ p) ++ i) ++ e) ≡ r ++ (k ++ (p ++ (i ++ e)))
 apart_child r k p i e = simp append_assoc
 
--- The JSON tokens that the code appends for a child shard are those of the child's object.
 pub child_tokens : (s : Shard) (r : Span) (id : List ℕ) → r ≡ s.range → id ≡ shard_id s.no
     → begin_object ∷ key (codes "HashKeyRange")
     ∷ ((((tokens_of (range_data r) ++ key (codes "ParentShards") ∷ [])

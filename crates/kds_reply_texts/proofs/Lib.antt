@@ -1,4 +1,5 @@
 pub mod BatchTexts
+pub mod Fronts
 pub mod Joined
 pub mod TokenTexts
 pub mod PlainTexts

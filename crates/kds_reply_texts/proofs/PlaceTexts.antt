@@ -1,4 +1,4 @@
--- The pieces that the code appends for the results of puts make the texts of these results.
+-- The pieces appended for the results of puts make their texts.
 use Rattle.std.proofs.Common.{◌≡◌, ℕ, List, ◌++◌, decimal, codes, append_assoc, ap, ◌∙◌}
 use Rattle.json.specs.Print.{escape, escape_byte}
 use Rattle.serde_json.specs.Data.{Data, unsigned, number, object, string, no_members, member}
@@ -8,7 +8,6 @@ use Rattle.kds_token.specs.Ids.{shard_id}
 use Rattle.kds_defs.specs.declared.reply.Outcome.{Outcome}
 use Rattle.kds_reply_texts.specs.Bodies.{failed_count, failed_data, list_data, outcome_data, outcomes_data, place_data}
 
--- The pieces for a sequence number and a shard's ID make the text of the object of both, whatever the two texts are.
 two_names : (seq id : List ℕ)
     → codes "{\"SequenceNumber\":\"" ++ (escape seq ++ (codes "\",\"ShardId\":\"" ++ (escape id ++ codes "\"}")))
     ≡ compact_text (object
@@ -19,7 +18,6 @@ two_names seq id = simp append_assoc
 in_pieces : (a b c d e : List ℕ) → (((a ++ b) ++ c) ++ d) ++ e ≡ a ++ (b ++ (c ++ (d ++ e)))
 in_pieces a b c d e = simp append_assoc
 
--- The pieces that the code appends for a stored record make the text of its result (`place_data`).
 pub place_pieces : (p : Place) (id : List ℕ) → id ≡ shard_id p.shard
     → (((codes "{\"SequenceNumber\":\"" ++ escape (decimal p.seq)) ++ codes "\",\"ShardId\":\"") ++ escape id)
     ++ codes "\"}" ≡ compact_text (place_data p)
@@ -31,7 +29,6 @@ place_pieces p id is =
     ∙ ap (λ (x : List ℕ). compact_text (object (member (codes "SequenceNumber") (string (decimal p.seq))
     (member (codes "ShardId") (string x) no_members)))) is
 
--- The pieces for the name and the message of an error make the text of the object of both, whatever the two texts are.
 two_reasons : (name message : List ℕ)
     → codes "{\"ErrorCode\":\"" ++ (escape name ++ (codes "\",\"ErrorMessage\":\"" ++ (escape message ++ codes "\"}")))
     ≡ compact_text (object
@@ -39,7 +36,6 @@ two_reasons : (name message : List ℕ)
 unfolding escape_byte
 two_reasons name message = simp append_assoc
 
--- The pieces that the code appends for a record that wasn't stored make the text of its result (`failed_data`).
 pub failed_pieces : (name message : List ℕ)
     → (((codes "{\"ErrorCode\":\"" ++ escape name) ++ codes "\",\"ErrorMessage\":\"") ++ escape message) ++ codes "\"}"
     ≡ compact_text (failed_data name message)
@@ -48,7 +44,6 @@ failed_pieces name message =
     in_pieces (codes "{\"ErrorCode\":\"") (escape name) (codes "\",\"ErrorMessage\":\"") (escape message) (codes "\"}")
     ∙ two_reasons name message
 
--- The pieces for the number of failed records and an array make the text of the object of both, whatever the array is.
 counted : (n : ℕ) (d : Data)
     → codes "{\"FailedRecordCount\":" ++ (decimal n ++ (codes ",\"Records\":" ++ (compact_text d ++ codes "}")))
     ≡ compact_text (object
@@ -56,7 +51,6 @@ counted : (n : ℕ) (d : Data)
 unfolding escape_byte
 counted n d = simp append_assoc
 
--- The pieces that the code appends for the reply to PutRecords make the text of this reply (`outcomes_data`).
 pub outcomes_pieces : (os : List Outcome) (n : ℕ) → n ≡ failed_count os
     → (((codes "{\"FailedRecordCount\":" ++ decimal n) ++ codes ",\"Records\":")
     ++ compact_text (list_data outcome_data os)) ++ codes "}"

@@ -1,16 +1,16 @@
--- Base64 text, decimal numbers, and texts that the code has tested need no escaping in a JSON string.
+-- Base64 text, decimal numbers and texts that the code tested need no escaping.
 use Rattle.std.proofs.Common.{◌≡◌, ℕ, zero, suc, ◌+◌, ◌*◌, ◌/◌, ◌%◌, ◌^◌, ◌<◌, ◌≤◌, Bool, true, false, ◌==◌, ◌||◌}
 use Rattle.std.proofs.Common.{nat_lt, List, [], ◌∷◌, ◌++◌, length, refl, ap, ◌∙◌, decimal, arith, slice_index, get_or}
-use Rattle.std.proofs.Common.{replicate, IsUtf8, inl, inr}
-use Rattle.std.proofs.lemmas.Bool.{cases_lt, or_parts, not-true, eqb-false, ltb-false, ne_eqb, le-ltb}
+use Rattle.std.proofs.Common.{replicate, IsUtf8}
+use Rattle.std.proofs.lemmas.Bool.{or_parts, not-true, eqb-false, ltb-false, ne_eqb, le-ltb}
 use Rattle.std.proofs.lemmas.Fmt.{decimal_is_IsNumeral}
 use Rattle.std.proofs.lemmas.Str.Parse.{digit_at}
 use Rattle.std.proofs.lemmas.List.Sums.{AllPass-from_list_all}
-use Rattle.std.proofs.lemmas.List.{get_or_past}
 use Rattle.std.proofs.lemmas.Str.{utf8_lossy-IsUtf8, IsUtf8-from_ascii}
-use Rattle.std.specs.Prelude.{⊤, IsAscii}
+use Rattle.std.specs.Prelude.{⊤}
 use Rattle.std.specs.Bool.{OnTrue}
 use Rattle.std.specs.Str.Lossy.{utf8_lossy}
+use Rattle.std.proofs.lemmas.Str.Ascii.{IsAscii-from_reads}
 use Rattle.base64.specs.Engines.{standard}
 use Rattle.base64.specs.GeneralPurpose.{encode_of}
 use Rattle.base64.specs.Rfc4648.{encode_symbols, padding_len}
@@ -70,7 +70,6 @@ symbols (a ∷ b ∷ c ∷ rest) bytes =
       ),
     )
 
--- The base64 text of bytes needs no escaping. Each element of `m` must be below 256.
 pub escape-encoded : (m : List ℕ) → ((k : ℕ) → get_or m k 0 < 256)
     → escape (encode_of standard m) ≡ encode_of standard m
 escape-encoded m bytes =
@@ -89,21 +88,12 @@ digits_plain (x ∷ xs) h =
     let first = h 0 (omega arith) in
     (digit x first.0 first.1, digits_plain xs (λ i small. h (suc i) (omega arith)))
 
--- A number below 2^64 in decimal needs no escaping.
 pub escape-decimal : (n : ℕ) → n < 2 ^ 64 → escape (decimal n) ≡ decimal n
 escape-decimal n small =
     escape_plain (decimal n)
     (digits_plain (decimal n) (λ i inside. digit_at (decimal n) i (decimal_is_IsNumeral n small).0.1 inside))
 
 -- ---- Texts that the code copies into a JSON string unchanged
-
-below_128 : (d : List ℕ) (n : ℕ) → length d ≤ n → ((k : ℕ) → k < n → get_or d k 0 < 128) → IsAscii d
-below_128 d n all low i =
-    elim (cases_lt i (length d)) [
-      | inl inside ↦ low i (omega arith)
-      | inr past ↦ let none = get_or_past d i 0 past in
-          omega arith
-    ]
 
 escape_seen : (plain : Bool) (d : List ℕ) (n : ℕ) → plain ≡ true → length d ≤ n → OnTrue plain (PlainBetween d 0 n)
     → escape d ≡ d
@@ -113,17 +103,13 @@ escape_seen false d n is all seen = absurd (cc)
 stands : (d : List ℕ) → IsUtf8 d → escape d ≡ d → escape (utf8_lossy d) ≡ d
 stands d text plain = ap escape (utf8_lossy-IsUtf8 d text) ∙ plain
 
--- Let the code have looked at `n` bytes, which are all bytes of the text `d`. If it found that none of them needs
--- escaping (`plain`) and all are below 128 (`ascii`), the text stands in a JSON string unchanged.
 pub plain_ascii : (plain ascii : Bool) (d : List ℕ) (n : ℕ) → plain ≡ true → length d ≤ n
     → OnTrue plain (PlainBetween d 0 n)
     → OnTrue ascii ((k : ℕ) → k < n → get_or d k 0 < 128) → OnTrue ascii (escape (utf8_lossy d) ≡ d)
 plain_ascii plain true d n is all seen low =
-    stands d (IsUtf8-from_ascii d (below_128 d n all low)) (escape_seen plain d n is all seen)
+    stands d (IsUtf8-from_ascii d (IsAscii-from_reads d n all low)) (escape_seen plain d n is all seen)
 plain_ascii plain false d n is all seen low = tt
 
--- Let the code have looked at `n` bytes, which are all bytes of the text `d`. If it found that none of them needs
--- escaping (`plain`) and that the text is valid UTF-8 (`text`), the text stands in a JSON string unchanged.
 pub plain_text : (plain text : Bool) (d : List ℕ) (n : ℕ) → plain ≡ true → length d ≤ n
     → OnTrue plain (PlainBetween d 0 n)
     → OnTrue text (IsUtf8 d) → OnTrue text (escape (utf8_lossy d) ≡ d)

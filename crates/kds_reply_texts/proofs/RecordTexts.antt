@@ -1,5 +1,4 @@
--- The pieces that the code appends for a record make the record's text, and those of all records with commas make the
--- array's text.
+-- The pieces appended for a record make its text, and all records with commas make the array's text.
 use Rattle.std.proofs.Common.{◌≡◌, ℕ, ◌+◌, ◌-◌, ◌/◌, ◌^◌, ◌<◌, ◌≤◌, Bool, true, List, [], ◌∷◌, ◌++◌, Some, None, Option}
 use Rattle.std.proofs.Common.{length, take, drop, map, get_or, refl, sym, ap, ◌∙◌, decimal, codes, arith, append_assoc}
 use Rattle.std.proofs.Common.{inl, inr}
@@ -18,7 +17,7 @@ use Rattle.serde_json.specs.View.{items_of}
 use Rattle.kds_defs.specs.declared.reply.Stored.{Stored}
 use Rattle.kds_reply_texts.specs.Records.{record_data}
 
--- The pieces of the record `r`, one after another, make the text of this record.
+-- The pieces of a record make its text.
 pub record_text : (r : Stored)
     → codes "{\"ApproximateArrivalTimestamp\":"
     ++ (decimal (r.arrival / 1000) ++ (codes ",\"Data\":\"" ++ (escape (encode_of standard r.payload)
@@ -29,8 +28,6 @@ pub record_text : (r : Stored)
 unfolding record_data escape_byte
 record_text r = simp append_assoc
 
--- Let `r` be the size of the base64 text of `n` bytes, or None if this size doesn't fit into 64 bits. If `r` has the
--- size `size`, this is the length of the text.
 pub size_is : (n size : ℕ) (r : Option ℕ) → (encoded_size n true < 2 ^ 64 → r ≡ Some (encoded_size n true))
     → (2 ^ 64 ≤ encoded_size n true → r ≡ None) → r ≡ Some size → size ≡ encoded_size n true
 size_is n size r fits long is = elim (cases_lt (encoded_size n true) (2 ^ 64)) [
@@ -38,36 +35,32 @@ size_is n size r fits long is = elim (cases_lt (encoded_size n true) (2 ^ 64)) [
   | inr over ↦ let e = long over in absurd (cc)
 ]
 
--- Let the first `at` bytes of a vector be `old`, and let `size` bytes of room follow. If a text of this length is
--- written into the room, the bytes are `old` followed by the text.
-pub written_over : (s new rest old text part : List ℕ) (at size wide k : ℕ) → take at s ≡ old → at ≡ length old
-    → length s ≡ at + size → k ≡ length s → size ≡ wide
-    → length new ≡ length part → length new + at ≡ length s → new ≡ text ++ drop wide part
-    → take k ((take at s ++ (new ++ post_of at (length s - at) s))
-    ++ drop (length (take at s ++ (new ++ post_of at (length s - at) s))) rest) ≡ old ++ text
-written_over s new rest old text part at size wide k front is long all fits same whole written =
+pub written_over : (s new rest old text part : List ℕ) (index size wide k : ℕ) → take index s ≡ old → index ≡ length old
+    → length s ≡ index + size → k ≡ length s → size ≡ wide
+    → length new ≡ length part → length new + index ≡ length s → new ≡ text ++ drop wide part
+    → take k ((take index s ++ (new ++ post_of index (length s - index) s))
+    ++ drop (length (take index s ++ (new ++ post_of index (length s - index) s))) rest) ≡ old ++ text
+written_over s new rest old text part index size wide k front is long all fits same whole written =
     let over : drop wide part ≡ [] = drop_all wide part (omega arith) in
     let over_all : new ≡ text = written ∙ ap (λ (x : List ℕ). text ++ x) over ∙ append-nil text in
-    let past : post_of at (length s - at) s ≡ [] =
-    drop_all (length s - at) (drop at s) (omega (arith, length-drop at s)) in
-    let bytes : take at s ++ (new ++ post_of at (length s - at) s) ≡ old ++ text =
+    let past : post_of index (length s - index) s ≡ [] =
+    drop_all (length s - index) (drop index s) (omega (arith, length-drop index s)) in
+    let bytes : take index s ++ (new ++ post_of index (length s - index) s) ≡ old ++ text =
     rw (front, past, over_all, append-nil) refl in
-    let len : length (take at s ++ (new ++ post_of at (length s - at) s)) ≡ k =
+    let len : length (take index s ++ (new ++ post_of index (length s - index) s)) ≡ k =
     ap length bytes ∙ length-append old text ∙ omega (arith, ap length over_all) in
     take_at _ _ k len ∙ bytes
 
--- If a writer without bytes and tokens adds one string, what it prints is this string in quotes.
-pub string_text : (before : List ℕ) (ts : List Token) (text : List ℕ) → before ≡ [] → ts ≡ string text ∷ []
-    → before ++ print ts ≡ quoted text
+pub string_text : (old : List ℕ) (ts : List Token) (text : List ℕ) → old ≡ [] → ts ≡ string text ∷ []
+    → old ++ print ts ≡ quoted text
 unfolding print_from
-string_text before ts text nothing is = rw (nothing, is) (append-nil (quoted text))
+string_text old ts text nothing is = rw (nothing, is) (append-nil (quoted text))
 
--- Nine pieces that are appended one after another are the nine pieces in order.
 pub in_pieces : (a b c d e f g h i : List ℕ) → (((((((a ++ b) ++ c) ++ d) ++ e) ++ f) ++ g) ++ h) ++ i ≡ a
     ++ (b ++ (c ++ (d ++ (e ++ (f ++ (g ++ (h ++ i)))))))
 in_pieces a b c d e f g h i = simp append_assoc
 
--- The pieces that the code appends for the record `r` make the text of this record.
+-- The pieces appended for a record make its text.
 pub record_pieces : (r : Stored) (n : ℕ) (payload name : List ℕ) → n ≡ r.arrival / 1000 → payload ≡ r.payload
     → name ≡ r.key
     → (((((((codes "{\"ApproximateArrivalTimestamp\":" ++ decimal n) ++ codes ",\"Data\":\"")
@@ -83,8 +76,7 @@ record_pieces r n payload name is_n is_payload is_name =
 
 -- ---- The elements of an array, one after another
 
--- The element at the index `i` is appended, with a comma before it if it isn't the first (`later`). If the text before
--- and that of the elements still to come were together `all`, this is still so afterwards.
+-- The elements so far and those to come still make the array after one more is appended.
 pub next_item : {A : Type 0} (f : A → Data) (xs : List A) (i : ℕ) (x : A) (later : Bool) (out parted more all : List ℕ)
     → i < length xs → x ≡ get_or xs i x
     → parted ≡ out ++ comma_if later → more ≡ parted ++ compact_text (f x)
@@ -99,7 +91,6 @@ next_item f xs i x later out parted more all inside is comma text whole =
     ∙ append_assoc out (comma_if later) (compact_text (f x) ++ rest) in
     joined ∙ ap (λ ys. out ++ items_text later (items_of (map f ys))) (sym here) ∙ whole
 
--- If no element is still to come, the closing bracket completes the array's text.
 pub last_item : {A : Type 0} (f : A → Data) (xs : List A) (i : ℕ) (later : Bool) (out all : List ℕ)
     → length xs ≤ i → out ++ items_text later (items_of (map f (drop i xs))) ≡ all → out ++ 93 ∷ [] ≡ all
 last_item f xs i later out all past whole =

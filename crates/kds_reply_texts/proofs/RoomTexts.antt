@@ -1,5 +1,4 @@
--- If a text is written over some bytes of a vector, the vector has this text in their place. What the code writes in
--- this way for a record is the record's JSON text.
+-- A text written over bytes of a vector replaces them, and what is so written for a record is its text.
 use Rattle.std.proofs.Common.{◌≡◌, ℕ, ◌+◌, ◌/◌, ◌≤◌, true, List, ◌++◌, length, take, drop, replicate, subst, ap, ◌∙◌}
 use Rattle.std.proofs.Common.{decimal, codes, arith, append_assoc}
 use Rattle.std.proofs.lemmas.List.{length-append, length-replicate, length-take-le, take_at}
@@ -16,8 +15,8 @@ use Rattle.kds_defs.specs.declared.reply.Stored.{Stored}
 use Rattle.kds_reply_texts.specs.Records.{record_data}
 use Rattle.kds_reply_texts.specs.Room.{front_text, written_record}
 use Rattle.kds_reply_texts.proofs.RecordTexts.{record_text}
+use Rattle.kds_reply_texts.proofs.BatchTexts.{in_pieces}
 
--- The length of the base64 text of `m` is `encoded_size`.
 pub length-encoded : (m : List ℕ) → length (encode_of standard m) ≡ encoded_size (length m) true
 length-encoded m =
     let symbols = encode_symbols standard.encode_table m in
@@ -25,8 +24,6 @@ length-encoded m =
     let size : length padding ≡ padding_len (length m) = length-replicate {A = ℕ} (padding_len (length m)) 61 in
     omega (arith, length-append symbols padding, length-encode_symbols standard.encode_table m)
 
--- Let `text` be written into the vector `xs` from the index `a` on. The bytes up to the end of `text` are those before
--- `a`, followed by `text`.
 pub over_part : (a k n : ℕ) (xs ys text rest : List ℕ) → ys ≡ text ++ rest → a ≤ length xs → n ≡ a + length text
     → take n (put_mid a k xs ys) ≡ take a xs ++ text
 over_part a k n xs ys text rest is inside end =
@@ -38,8 +35,7 @@ over_part a k n xs ys text rest is inside end =
 front_first : (a b c rest : List ℕ) → (a ++ (b ++ c)) ++ rest ≡ a ++ (b ++ (c ++ rest))
 front_first a b c rest = simp append_assoc
 
--- Let `front`, `payload` and `name` be the text before the payload, the payload and the escaped key of the record `r`.
--- Then what is written from them is the text of `r`.
+-- What is written from a record's three parts is the record's text.
 pub record_over : (r : Stored) (front payload name : List ℕ)
     → front ≡ front_text (r.arrival / 1000) → payload ≡ r.payload → name ≡ escape (utf8_lossy r.key)
     → written_record front payload name r.seq ≡ compact_text (record_data r)
@@ -49,26 +45,20 @@ record_over r front payload name is_front is_payload is_name =
     (front_first (codes "{\"ApproximateArrivalTimestamp\":") (decimal (r.arrival / 1000)) (codes ",\"Data\":\"") _
     ∙ record_text r)
 
-seven : (a b c d e f g : List ℕ) → (((((a ++ b) ++ c) ++ d) ++ e) ++ f) ++ g ≡ a ++ (b ++ (c ++ (d ++ (e ++ (f ++ g)))))
-seven a b c d e f g = simp append_assoc
-
--- The pieces that the code writes for a record, one after another, are `written_record`.
+-- The pieces written for a record are `written_record`.
 pub record_in_pieces : (front payload name : List ℕ) (seq : ℕ)
     → (((((front ++ escape (encode_of standard payload)) ++ codes "\",\"PartitionKey\":\"") ++ name)
     ++ codes "\",\"SequenceNumber\":\"") ++ escape (decimal seq)) ++ codes "\"}"
     ≡ written_record front payload name seq
 unfolding written_record
 record_in_pieces front payload name seq =
-    seven front (escape (encode_of standard payload)) (codes "\",\"PartitionKey\":\"") name
+    in_pieces front (escape (encode_of standard payload)) (codes "\",\"PartitionKey\":\"") name
     (codes "\",\"SequenceNumber\":\"") (escape (decimal seq)) (codes "\"}")
 
--- If the base64 engine `e` is the standard one, what it wrote over the bytes `old` is what the standard one writes.
 pub encoded_by : (e : GeneralPurpose) (m old new : List ℕ) → e ≡ standard → IsEncodedOver e m old new
     → IsEncodedOver standard m old new
 encoded_by e m old new is written = subst (λ (g : GeneralPurpose). IsEncodedOver g m old new) is written
 
--- If the `k` elements `new` are written over the first `k` elements of a vector, the first `e` of these are then the
--- first `e` elements of `new`.
 pub over_vec : (e k : ℕ) (new items : List ℕ) → length new ≡ k → take e (take k (new ++ drop (length new) items))
     ≡ take e new
 over_vec e k new items size = ap (λ (s : List ℕ). take e s) (take_at new _ k size)

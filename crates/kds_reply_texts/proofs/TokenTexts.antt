@@ -1,4 +1,4 @@
--- Base64 text is valid UTF-8, and the token of a shard iterator needs no escaping.
+-- Base64 text is valid UTF-8, and an iterator's token needs no escaping.
 use Rattle.std.proofs.Common.{◌≡◌, ℕ, List}
 use Rattle.std.specs.Str.{IsUtf8}
 use Rattle.std.proofs.lemmas.Str.{IsUtf8-from_ascii}
@@ -11,10 +11,8 @@ use Rattle.kds_token.specs.Tokens.{IsIter, iter_text, iter_token}
 use Rattle.kds_token.proofs.TokenLemmas.{iter_small, small_bytes}
 use Rattle.kds_reply_texts.proofs.PlainTexts.{escape-encoded}
 
--- The base64 text of bytes is valid UTF-8.
 pub encoded_is_text : (bytes : List ℕ) → IsUtf8 (encode_of standard bytes)
 encoded_is_text bytes = IsUtf8-from_ascii (encode_of standard bytes) (IsAscii-encode_of standard bytes)
 
--- The token of an iterator whose numbers are in their ranges (`IsIter`) needs no escaping in a JSON string.
 pub token_plain : (i : Iter) → IsIter i → escape (iter_token i) ≡ iter_token i
 token_plain i is = escape-encoded (iter_text i) (small_bytes (iter_text i) (iter_small i is))

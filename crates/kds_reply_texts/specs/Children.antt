@@ -1,4 +1,4 @@
--- Defines the JSON objects for the child shards that GetRecords returns at the end of a closed shard.
+-- JSON objects for the child shards that GetRecords returns at the end of a closed shard.
 use Rattle.std.specs.Prelude.{ℕ, List, ◌++◌, codes}
 use Rattle.std.specs.Option.{option_to_list}
 use Rattle.serde_json.specs.Data.{Data, object, no_members, member}
@@ -6,21 +6,19 @@ use Rattle.kds_base.specs.Span.{Span}
 use Rattle.kds_defs.specs.declared.reply.Shard.{Shard}
 use Rattle.kds_reply_texts.specs.Bodies.{number_data, id_data, list_data}
 
--- The object for the range of hash keys `r`, with its two ends as decimal strings (Kinesis API Reference,
--- HashKeyRange).
-unfoldable pub range_data : Span → Data
+-- A range of hash keys, with ends as decimal strings (Kinesis API Reference, HashKeyRange).
+unfoldable pub range_data : (r : Span) → Data
 range_data r =
     object
     (member (codes "EndingHashKey") (number_data r.end)
     (member (codes "StartingHashKey") (number_data r.start) no_members))
 
--- The number of the parent of the shard `s`, followed by that of its adjacent parent. If the shard doesn't have one of
--- them, this parent is left out.
-abbrev pub parents_of : Shard → List ℕ
+-- The numbers of the shard's parent and adjacent parent, as far as it has them.
+abbrev pub parents_of : (s : Shard) → List ℕ
 parents_of s = option_to_list s.parent ++ option_to_list s.adjacent
 
--- The object for the child shard `s`: its range, its parents' IDs and its own ID (Kinesis API Reference, ChildShard).
-unfoldable pub child_data : Shard → Data
+-- The object for a child shard (Kinesis API Reference, ChildShard).
+unfoldable pub child_data : (s : Shard) → Data
 child_data s =
     object
     (member (codes "HashKeyRange") (range_data s.range)

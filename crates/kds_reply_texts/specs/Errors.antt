@@ -1,4 +1,4 @@
--- Defines the bodies of error responses to refused commands (Kinesis API Reference, the Errors of each action).
+-- The bodies of error responses to refused commands (Kinesis API Reference, the Errors of each action).
 use Rattle.std.specs.Prelude.{ℕ, List, [], codes}
 use Rattle.serde_json.specs.Data.{Data, string, object, member, no_members}
 use Rattle.serde_json.specs.Written.{compact_text}
@@ -7,14 +7,13 @@ use Rattle.kds_defs.specs.declared.reply.Refusal.TheVariants.{NoStream, StreamTh
 use Rattle.kds_defs.specs.declared.reply.Refusal.TheVariants.{BadSplit, BadNumber, BadRetention, Expired, PageExpired}
 use Rattle.kds_defs.specs.declared.reply.Refusal.TheVariants.{Full, Spent, Throttled}
 
--- The object for the error with the name `name` and the message `message`.
-abbrev pub error_data : List ℕ → List ℕ → Data
+-- The object for an error.
+abbrev pub error_data : (name message : List ℕ) → Data
 error_data name message =
     object (member (codes "__type") (string name) (member (codes "message") (string message) no_members))
 
--- The name of the error for a refusal of the stream service. Every other refusal gets an empty name here, and never has
--- a JSON body.
-abbrev pub refusal_name : Refusal → List ℕ
+-- The error's name for a refusal of the stream service; others are empty and never sent.
+abbrev pub refusal_name : (refusal : Refusal) → List ℕ
 refusal_name NoStream = codes "ResourceNotFoundException"
 refusal_name StreamThere = codes "ResourceInUseException"
 refusal_name NoShard = codes "ResourceNotFoundException"
@@ -30,9 +29,8 @@ refusal_name Spent = codes "LimitExceededException"
 refusal_name (Throttled sh) = codes "ProvisionedThroughputExceededException"
 refusal_name _ = []
 
--- The message of the error for a refusal of the stream service. Every other refusal gets an empty message here, and
--- never has a JSON body.
-abbrev pub refusal_message : Refusal → List ℕ
+-- The error's message for a refusal of the stream service; others are empty and never sent.
+abbrev pub refusal_message : (refusal : Refusal) → List ℕ
 refusal_message NoStream = codes "stream not found"
 refusal_message StreamThere = codes "stream exists"
 refusal_message NoShard = codes "shard not found"
@@ -48,6 +46,6 @@ refusal_message Spent = codes "numbers are used up"
 refusal_message (Throttled sh) = codes "rate exceeded"
 refusal_message _ = []
 
--- The body of the error response for the refusal `r`: the compact text of the error's object.
-abbrev pub refusal_text : Refusal → List ℕ
+-- The body of the error response for a refusal.
+abbrev pub refusal_text : (r : Refusal) → List ℕ
 refusal_text r = compact_text (error_data (refusal_name r) (refusal_message r))

@@ -1,4 +1,4 @@
--- Defines the JSON values for the records that GetRecords returns, and for the whole reply.
+-- JSON values for the records of GetRecords, and for the whole reply.
 use Rattle.std.specs.Prelude.{ℕ, List, codes, Option, Some, None}
 use Rattle.std.specs.Str.Lossy.{utf8_lossy}
 use Rattle.base64.specs.Engines.{standard}
@@ -10,18 +10,16 @@ use Rattle.kds_defs.specs.declared.reply.Stored.{Stored}
 use Rattle.kds_reply_texts.specs.Bodies.{number_data, list_data, seconds_data, iterator_string}
 use Rattle.kds_reply_texts.specs.Children.{child_data}
 
--- The bytes `bytes` as a JSON string, in standard base64 with padding (RFC 4648, section 4).
-abbrev pub blob_data : List ℕ → Data
+-- A JSON string of bytes in padded standard base64 (RFC 4648, section 4).
+abbrev pub blob_data : (bytes : List ℕ) → Data
 blob_data bytes = string (encode_of standard bytes)
 
--- The partition key `key` as a JSON string. Invalid UTF-8 would be replaced, but the keys of the records of every
--- history are valid UTF-8.
-abbrev pub key_data : List ℕ → Data
+-- The partition key as a JSON string; invalid UTF-8 would be replaced, but no history has such keys.
+abbrev pub key_data : (key : List ℕ) → Data
 key_data key = string (utf8_lossy key)
 
--- The object for the record `r`: its arrival time, its payload, its partition key and its sequence number (Kinesis API
--- Reference, Record).
-unfoldable pub record_data : Stored → Data
+-- The object for a record (Kinesis API Reference, Record).
+unfoldable pub record_data : (r : Stored) → Data
 record_data r =
     object
     (member (codes "ApproximateArrivalTimestamp") (seconds_data r.arrival)
@@ -29,10 +27,8 @@ record_data r =
     (member (codes "PartitionKey") (key_data r.key)
     (member (codes "SequenceNumber") (number_data r.seq) no_members))))
 
--- The reply to GetRecords: the records `batch`, by how many milliseconds the reader is behind, and the next shard
--- iterator. At the end of a closed shard (None), the next iterator is null, and the shard's children are included
--- (Kinesis API Reference, GetRecords, Response Elements).
-unfoldable pub records_data : List Stored → Option Iter → ℕ → List Shard → Data
+-- GetRecords: at a shard's end, a null iterator and children (Kinesis API Reference, GetRecords, Response Elements).
+unfoldable pub records_data : (batch : List Stored) (next : Option Iter) (behind : ℕ) (children : List Shard) → Data
 records_data batch (Some next) behind children =
     object
     (member (codes "MillisBehindLatest") (number (unsigned behind))

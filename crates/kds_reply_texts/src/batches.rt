@@ -1,5 +1,5 @@
 //! Writes the reply to GetRecords directly as JSON text.
-ghost use Rattle.std.specs.Prelude.{◌≡◌, ◌++◌, Some, None, List, OnOk};
+ghost use Rattle.std.specs.Prelude.{◌≡◌, ◌++◌, Some, None, List, take, vec_len, OnOk};
 ghost use Rattle.serde_json.specs.Written.{compact_text};
 ghost use Rattle.kds_defs.specs.declared.reply.Shard.{Shard};
 ghost use Rattle.kds_reply_texts.specs.Records.{records_data};
@@ -32,7 +32,8 @@ fn put_open(
     next: &Iter,
     behind: u64,
 ) -> Result<(), Memory>
-    ensures { (children : List Shard)
+    ensures front { take (vec_len out.old) out.new.items ≡ out.old.items }
+    ensures ok { (children : List Shard)
         → OnOk result (out.new.items ≡ out.old.items
         ++ compact_text (records_data batch.now (Some next.now) behind children)) }
 {
@@ -56,7 +57,8 @@ fn put_end(
     behind: u64,
     children: &[Shard],
 ) -> Result<(), Memory>
-    ensures { OnOk result (out.new.items ≡ out.old.items
+    ensures front { take (vec_len out.old) out.new.items ≡ out.old.items }
+    ensures ok { OnOk result (out.new.items ≡ out.old.items
         ++ compact_text (records_data batch.now None behind children.now)) }
 {
     let family = children_text(alloc, children)?;
@@ -81,7 +83,8 @@ pub fn add_batch(
     behind: u64,
     children: &[Shard],
 ) -> Result<(), Memory>
-    ensures { OnOk result (out.new.items ≡ out.old.items
+    ensures front { take (vec_len out.old) out.new.items ≡ out.old.items }
+    ensures ok { OnOk result (out.new.items ≡ out.old.items
         ++ compact_text (records_data batch.now next.now behind children.now)) }
 {
     reserve(out, size_of_batch(batch))?;

@@ -19,7 +19,8 @@ static ZEROS: [u8; 1024] = [0; 1024];
 
 /// Reserves memory for `size` bytes beyond those that the vector has.
 pub fn reserve(out: &mut Vec<u8>, size: usize) -> Result<(), Memory>
-    ensures { OnOk result (out.new.items ≡ out.old.items) }
+    ensures front { take (vec_len out.old) out.new.items ≡ out.old.items }
+    ensures ok { OnOk result (out.new.items ≡ out.old.items) }
 {
     out.reserve(size)?;
     Ok(())
@@ -28,7 +29,8 @@ pub fn reserve(out: &mut Vec<u8>, size: usize) -> Result<(), Memory>
 /// Appends the bytes `piece`.
 #[inline(always)]
 pub fn push_piece(out: &mut Vec<u8>, piece: &[u8]) -> Result<(), Memory>
-    ensures { OnOk result (out.new.items ≡ out.old.items ++ piece.now) }
+    ensures front { take (vec_len out.old) out.new.items ≡ out.old.items }
+    ensures ok { OnOk result (out.new.items ≡ out.old.items ++ piece.now) }
 {
     out.extend_from_slice(piece)?;
     Ok(())
@@ -37,7 +39,8 @@ pub fn push_piece(out: &mut Vec<u8>, piece: &[u8]) -> Result<(), Memory>
 /// Appends a comma if `later` is true.
 #[inline(always)]
 pub fn put_comma(out: &mut Vec<u8>, later: bool) -> Result<(), Memory>
-    ensures { OnOk result (out.new.items ≡ out.old.items ++ comma_if later) }
+    ensures front { take (vec_len out.old) out.new.items ≡ out.old.items }
+    ensures ok { OnOk result (out.new.items ≡ out.old.items ++ comma_if later) }
 {
     if later { push_piece(out, b",") } else { Ok(()) }
 }
@@ -45,7 +48,8 @@ pub fn put_comma(out: &mut Vec<u8>, later: bool) -> Result<(), Memory>
 /// Appends the number `n` in decimal.
 #[inline(always)]
 pub fn put_decimal(out: &mut Vec<u8>, n: u64) -> Result<(), Memory>
-    ensures { OnOk result (out.new.items ≡ out.old.items ++ decimal n) }
+    ensures front { take (vec_len out.old) out.new.items ≡ out.old.items }
+    ensures ok { OnOk result (out.new.items ≡ out.old.items ++ decimal n) }
 {
     let mut digits = Buffer::new();
     push_piece(out, digits.format(n).as_bytes())?;
@@ -55,7 +59,8 @@ pub fn put_decimal(out: &mut Vec<u8>, n: u64) -> Result<(), Memory>
 /// Appends the number `n` in decimal as a part of a JSON string, in which no digit needs escaping.
 #[inline(always)]
 fn put_digits(out: &mut Vec<u8>, n: u64) -> Result<(), Memory>
-    ensures { OnOk result (out.new.items ≡ out.old.items ++ escape (decimal n)) }
+    ensures front { take (vec_len out.old) out.new.items ≡ out.old.items }
+    ensures ok { OnOk result (out.new.items ≡ out.old.items ++ escape (decimal n)) }
 {
     put_decimal(out, n)?;
     Ok(())
@@ -64,7 +69,8 @@ fn put_digits(out: &mut Vec<u8>, n: u64) -> Result<(), Memory>
 /// Appends a sequence number in decimal as a part of a JSON string.
 #[inline(always)]
 pub fn put_seq(out: &mut Vec<u8>, seq: Seq) -> Result<(), Memory>
-    ensures { OnOk result (out.new.items ≡ out.old.items ++ escape (decimal seq)) }
+    ensures front { take (vec_len out.old) out.new.items ≡ out.old.items }
+    ensures ok { OnOk result (out.new.items ≡ out.old.items ++ escape (decimal seq)) }
 {
     put_digits(out, seq.0)?;
     Ok(())
@@ -88,7 +94,8 @@ pub fn push_zeros(out: &mut Vec<u8>, size: usize) -> Result<(), Memory>
 /// Appends `bytes` as base64 (RFC 4648, section 4), as a part of a JSON string, in which no character of base64 needs
 /// escaping.
 pub fn put_base64(out: &mut Vec<u8>, bytes: &[u8]) -> Result<(), Memory>
-    ensures { OnOk result (out.new.items ≡ out.old.items ++ escape (encode_of standard bytes.now)) }
+    ensures front { take (vec_len out.old) out.new.items ≡ out.old.items }
+    ensures ok { OnOk result (out.new.items ≡ out.old.items ++ escape (encode_of standard bytes.now)) }
 {
     let Some(size) = encoded_len(bytes.len(), true) else {
         return Err(Memory);
@@ -129,7 +136,8 @@ pub fn stands_as_it_is(bytes: &[u8]) -> bool
 /// Appends `bytes` as a part of a JSON string, with characters escaped and invalid UTF-8 replaced. This function is
 /// called only if `bytes` can't be copied unchanged.
 pub fn put_replaced(out: &mut Vec<u8>, alloc: Global, bytes: &[u8]) -> Result<(), Memory>
-    ensures { OnOk result (out.new.items ≡ out.old.items ++ escape (utf8_lossy bytes.now)) }
+    ensures front { take (vec_len out.old) out.new.items ≡ out.old.items }
+    ensures ok { OnOk result (out.new.items ≡ out.old.items ++ escape (utf8_lossy bytes.now)) }
 {
     let string = string_of(alloc, bytes)?;
     let string = string.as_slice();
@@ -140,7 +148,8 @@ pub fn put_replaced(out: &mut Vec<u8>, alloc: Global, bytes: &[u8]) -> Result<()
 /// Appends `bytes` as a part of a JSON string. Characters are escaped if JSON requires it, and invalid UTF-8 is
 /// replaced.
 fn put_escaped(out: &mut Vec<u8>, alloc: Global, bytes: &[u8]) -> Result<(), Memory>
-    ensures { OnOk result (out.new.items ≡ out.old.items ++ escape (utf8_lossy bytes.now)) }
+    ensures front { take (vec_len out.old) out.new.items ≡ out.old.items }
+    ensures ok { OnOk result (out.new.items ≡ out.old.items ++ escape (utf8_lossy bytes.now)) }
 {
     if stands_as_it_is(bytes) {
         push_piece(out, bytes)
@@ -151,7 +160,8 @@ fn put_escaped(out: &mut Vec<u8>, alloc: Global, bytes: &[u8]) -> Result<(), Mem
 
 /// Appends the string `text` as a part of a JSON string. Characters are escaped if JSON requires it.
 pub fn put_str(out: &mut Vec<u8>, alloc: Global, text: &str) -> Result<(), Memory>
-    ensures { OnOk result (out.new.items ≡ out.old.items ++ escape text.now) }
+    ensures front { take (vec_len out.old) out.new.items ≡ out.old.items }
+    ensures ok { OnOk result (out.new.items ≡ out.old.items ++ escape text.now) }
 {
     put_escaped(out, alloc, text.as_bytes())?;
     Ok(())

@@ -1,5 +1,5 @@
 //! Writes the replies to PutRecord and PutRecords directly as JSON text.
-ghost use Rattle.std.specs.Prelude.{◌≡◌, ◌++◌, OnOk};
+ghost use Rattle.std.specs.Prelude.{◌≡◌, ◌++◌, take, vec_len, OnOk};
 ghost use Rattle.serde_json.specs.Written.{compact_text};
 ghost use Rattle.kds_reply_texts.specs.Bodies.{list_data, place_data, failed_data, outcome_data, has_failed};
 ghost use Rattle.kds_reply_texts.specs.Bodies.{failed_count as count_of_failed, outcomes_data};
@@ -37,7 +37,8 @@ fn failed_count(outcomes: &[Outcome]) -> u64
 /// Appends the sequence number and the shard ID of a stored record as a JSON object (Kinesis API Reference, PutRecord,
 /// Response Elements).
 fn put_place(out: &mut Vec<u8>, alloc: Global, place: &Place) -> Result<(), Memory>
-    ensures { OnOk result (out.new.items ≡ out.old.items ++ compact_text (place_data place.now)) }
+    ensures front { take (vec_len out.old) out.new.items ≡ out.old.items }
+    ensures ok { OnOk result (out.new.items ≡ out.old.items ++ compact_text (place_data place.now)) }
 {
     let shard = shard_id(place.shard);
     push_piece(out, b"{\"SequenceNumber\":\"")?;
@@ -50,7 +51,8 @@ fn put_place(out: &mut Vec<u8>, alloc: Global, place: &Place) -> Result<(), Memo
 
 /// Appends the result of a record of PutRecords that wasn't stored: a JSON object with the error's name and message.
 fn put_failed(out: &mut Vec<u8>, alloc: Global, name: &str, message: &str) -> Result<(), Memory>
-    ensures { OnOk result (out.new.items ≡ out.old.items ++ compact_text (failed_data name.now message.now)) }
+    ensures front { take (vec_len out.old) out.new.items ≡ out.old.items }
+    ensures ok { OnOk result (out.new.items ≡ out.old.items ++ compact_text (failed_data name.now message.now)) }
 {
     push_piece(out, b"{\"ErrorCode\":\"")?;
     put_str(out, alloc, name)?;
@@ -62,7 +64,8 @@ fn put_failed(out: &mut Vec<u8>, alloc: Global, name: &str, message: &str) -> Re
 
 /// Appends the result of one record of PutRecords as a JSON object (Kinesis API Reference, PutRecordsResultEntry).
 fn put_outcome(out: &mut Vec<u8>, alloc: Global, outcome: &Outcome) -> Result<(), Memory>
-    ensures { OnOk result (out.new.items ≡ out.old.items ++ compact_text (outcome_data outcome.now)) }
+    ensures front { take (vec_len out.old) out.new.items ≡ out.old.items }
+    ensures ok { OnOk result (out.new.items ≡ out.old.items ++ compact_text (outcome_data outcome.now)) }
 {
     match outcome {
         Outcome::Stored(place) => put_place(out, alloc, place),
@@ -80,7 +83,8 @@ fn put_outcome(out: &mut Vec<u8>, alloc: Global, outcome: &Outcome) -> Result<()
 
 /// Appends the results of the records of PutRecords as a JSON array.
 fn put_outcomes(out: &mut Vec<u8>, alloc: Global, outcomes: &[Outcome]) -> Result<(), Memory>
-    ensures { OnOk result (out.new.items ≡ out.old.items ++ compact_text (list_data outcome_data outcomes.now)) }
+    ensures front { take (vec_len out.old) out.new.items ≡ out.old.items }
+    ensures ok { OnOk result (out.new.items ≡ out.old.items ++ compact_text (list_data outcome_data outcomes.now)) }
 {
     let mut later = false;
     push_piece(out, b"[")?;
@@ -95,7 +99,8 @@ fn put_outcomes(out: &mut Vec<u8>, alloc: Global, outcomes: &[Outcome]) -> Resul
 
 /// Appends the body of the reply to PutRecord.
 pub fn add_place(out: &mut Vec<u8>, alloc: Global, place: &Place) -> Result<(), Memory>
-    ensures { OnOk result (out.new.items ≡ out.old.items ++ compact_text (place_data place.now)) }
+    ensures front { take (vec_len out.old) out.new.items ≡ out.old.items }
+    ensures ok { OnOk result (out.new.items ≡ out.old.items ++ compact_text (place_data place.now)) }
 {
     reserve(out, PLACE_BYTES)?;
     put_place(out, alloc, place)
@@ -103,7 +108,8 @@ pub fn add_place(out: &mut Vec<u8>, alloc: Global, place: &Place) -> Result<(), 
 
 /// Appends the body of the reply to PutRecords (Kinesis API Reference, PutRecords, Response Elements).
 pub fn add_outcomes(out: &mut Vec<u8>, alloc: Global, outcomes: &[Outcome]) -> Result<(), Memory>
-    ensures { OnOk result (out.new.items ≡ out.old.items ++ compact_text (outcomes_data outcomes.now)) }
+    ensures front { take (vec_len out.old) out.new.items ≡ out.old.items }
+    ensures ok { OnOk result (out.new.items ≡ out.old.items ++ compact_text (outcomes_data outcomes.now)) }
 {
     let size = outcomes.len().saturating_mul(PLACE_BYTES);
     reserve(out, size.saturating_add(PLACE_BYTES))?;

@@ -106,7 +106,7 @@ fn write_record(
 #[inline(always)]
 fn ensure_length(out: &mut Vec<u8>, at: usize, size: usize) -> Result<(), Memory>
     requires { at ≤ vec_len out.old }
-    ensures front { OnOk result (take at out.new.items ≡ take at out.old.items) }
+    ensures front { take at out.new.items ≡ take at out.old.items }
     ensures room { OnOk result (at + size ≤ vec_len out.new) }
 {
     let left = out.len() - at;
@@ -119,7 +119,8 @@ fn ensure_length(out: &mut Vec<u8>, at: usize, size: usize) -> Result<(), Memory
 
 /// Appends the JSON text of a record whose key may need escaping.
 fn append_record(out: &mut Vec<u8>, alloc: Global, stored: &Stored) -> Result<(), Memory>
-    ensures { OnOk result (out.new.items ≡ out.old.items ++ compact_text (record_data stored.now)) }
+    ensures front { take (vec_len out.old) out.new.items ≡ out.old.items }
+    ensures ok { OnOk result (out.new.items ≡ out.old.items ++ compact_text (record_data stored.now)) }
 {
     push_piece(out, b"{\"ApproximateArrivalTimestamp\":")?;
     put_decimal(out, seconds(stored.arrival))?;
@@ -144,6 +145,7 @@ fn add_escaped_record(
     stored: &Stored,
 ) -> Result<usize, Memory>
     requires { at ≤ vec_len out.old }
+    ensures front { take at out.new.items ≡ take at out.old.items }
     ensures within { IfOk result (λ end. end ≤ vec_len out.new) }
     ensures text { IfOk result (λ end. take end out.new.items ≡ take at out.old.items
         ++ (comma_if later ++ compact_text (record_data stored.now))) }
@@ -170,6 +172,7 @@ fn add_record(
     requires standard { engine.now ≡ standard }
     requires short { length front.now ≤ 60 }
     requires front { front.now ≡ front_text (stored.now.arrival / 1000) }
+    ensures front { take at out.new.items ≡ take at out.old.items }
     ensures within { IfOk result (λ end. end ≤ vec_len out.new) }
     ensures text { IfOk result (λ end. take end out.new.items ≡ take at out.old.items
         ++ (comma_if later ++ compact_text (record_data stored.now))) }
@@ -192,7 +195,8 @@ fn fill_records(
     batch: &[Stored],
 ) -> Result<(), Memory>
     requires { engine.now ≡ standard }
-    ensures { OnOk result (out.new.items ≡ out.old.items ++ compact_text (list_data record_data batch.now)) }
+    ensures front { take (vec_len out.old) out.new.items ≡ out.old.items }
+    ensures ok { OnOk result (out.new.items ≡ out.old.items ++ compact_text (list_data record_data batch.now)) }
 {
     push_piece(out, b"[")?;
     let mut front = [0u8; FRONT_BYTES];
@@ -221,7 +225,8 @@ fn standard_engine() -> GeneralPurpose
 
 /// Appends the records as a JSON array.
 pub fn append_records(out: &mut Vec<u8>, alloc: Global, batch: &[Stored]) -> Result<(), Memory>
-    ensures { OnOk result (out.new.items ≡ out.old.items ++ compact_text (list_data record_data batch.now)) }
+    ensures front { take (vec_len out.old) out.new.items ≡ out.old.items }
+    ensures ok { OnOk result (out.new.items ≡ out.old.items ++ compact_text (list_data record_data batch.now)) }
 {
     let engine = standard_engine();
     fill_records(out, alloc, &engine, batch)

@@ -1,15 +1,14 @@
--- How a step of a scaling, which names only a key, applies to the shards of a stream. The two shards of a merge are
--- open and adjacent, and the shard of a split is open and has the key inside its range. After the step, the open shards
--- have the starts (first keys of their ranges) to which the step leads.
+-- How a scaling's step, which names only a key, applies to shards, and which starts the open ones have then.
 use Rattle.std.proofs.Common.{◌≡◌, ℕ, zero, suc, ◌+◌, ◌-◌, ◌*◌, ◌/◌, ◌%◌, ◌^◌, ◌<◌, ◌≤◌, Bool, true, false, List, []}
 use Rattle.std.proofs.Common.{◌∷◌, ◌++◌, length, Option, Some, None, refl, sym, ap, subst, ◌∙◌, arith}
 use Rattle.std.specs.Prelude.{◌==◌, ◌&&◌, ◌||◌, cond, not, nat_le, nat_lt, slice_get, if◌then◌else◌}
 use Rattle.std.specs.List.{AllByRecursion, filter}
 use Rattle.std.proofs.lemmas.Bool.Decides.{nat_tests}
+use Rattle.std.proofs.lemmas.Option.{same_Some}
 use Rattle.kds_base.specs.Span.{Span, Covers, is_inside, lower_part, upper_part, is_followed_by, are_adjacent, joined}
 use Rattle.kds_base.specs.Span.{uniform}
 use Rattle.kds_base.specs.Span.{uniform_from}
-use Rattle.kds_base.proofs.Facts.{same_some}
+use Rattle.kds_base.proofs.Facts.{zero_plus}
 use Rattle.kds_defs.specs.Scaling.{RiseFrom, is_start, starts_of, uniform_starts, with_start, without}
 use Rattle.kds_defs.specs.ScaleCommands.{starts_among}
 use Rattle.kds_defs.specs.Shards.{ShardState, Closing, first_shards, is_open, new_shard, with_closed, range_of}
@@ -23,11 +22,11 @@ use Rattle.kds_defs.proofs.Rising.{rise_filter, rise_with, same_starts}
 
 -- ---- How many open shards start at a key
 
--- The number 1 if the range `r` starts at the key `k`, and 0 otherwise.
+-- 1 if the range starts at the key, and 0 otherwise.
 abbrev at_start : Span → ℕ → ℕ
 at_start r k = if r.start == k then 1 else 0
 
--- The number of open shards in a list whose range starts at the key `k`.
+-- The number of open shards whose range starts at the key.
 abbrev start_times : List ShardState → ℕ → ℕ
 start_times [] k = 0
 start_times (x ∷ xs) k = count_if (is_open x) (at_start x.range k) + start_times xs k
@@ -48,21 +47,19 @@ times-closed (y ∷ ys) zero closing x k is open_now =
     )
 times-closed (y ∷ ys) (suc sh) closing x k is open_now = omega (arith, times-closed ys sh closing x k is open_now)
 
--- If the open shard `x` starts at the key `k`, at least one open shard starts at `k`.
 times-at : (xs : List ShardState) (sh : ℕ) (x : ShardState) (k : ℕ) → slice_get xs sh ≡ Some x → is_open x ≡ true
     → x.range.start ≡ k → 1 ≤ start_times xs k
-times-at [] sh x k is open_now at = absurd cc
-times-at (y ∷ ys) zero x k is open_now at =
+times-at [] sh x k is open_now is_at = absurd cc
+times-at (y ∷ ys) zero x k is open_now is_at =
     let e : y ≡ x = cc in
-    let s : y.range.start ≡ k = ap (λ (z : ShardState). z.range.start) e ∙ at in
+    let s : y.range.start ≡ k = ap (λ (z : ShardState). z.range.start) e ∙ is_at in
     let one_here : at_start y.range k ≡ 1 = itself y.range k s in
     omega (arith, counted (is_open y) (at_start y.range k) (ap is_open e ∙ open_now), one_here)
   where
     itself : (r : Span) (k : ℕ) → r.start ≡ k → at_start r k ≡ 1
     itself r k h = grind (arith, nat_tests)
-times-at (y ∷ ys) (suc sh) x k is open_now at = omega (arith, times-at ys sh x k is open_now at)
+times-at (y ∷ ys) (suc sh) x k is open_now is_at = omega (arith, times-at ys sh x k is open_now is_at)
 
--- If a range isn't empty and starts at the key `k`, it contains `k`.
 start_within : (r : Span) (k : ℕ) → r.start ≤ r.end → at_start r k ≤ one r k
 start_within r k h = grind (arith, nat_tests)
 
@@ -77,7 +74,7 @@ times_within (x ∷ xs) k ordered =
 
 -- ---- Ranges that end below 2^128
 
--- The range of the shard `x` ends at a hash key, which is below 2^128.
+-- The range of the shard ends at a hash key.
 abbrev pub IsBounded : ShardState → Type 0
 IsBounded x = x.range.end < 2 ^ 128
 
@@ -102,18 +99,14 @@ once_by false xs k is tiled bounded =
     let far : 2 ^ 128 ≤ k = grind (arith, nat_tests) in
     omega (arith, times_within xs k tiled.ordered, beyond xs k bounded far)
 
--- If the shards are tiled (`IsTiled`) and their ranges end below 2^128, at most one open shard starts at the key `k`.
 pub once : (xs : List ShardState) (k : ℕ) → IsTiled xs → AllByRecursion IsBounded xs → start_times xs k ≤ 1
 once xs k tiled bounded = once_by (nat_lt k (2 ^ 128)) xs k refl tiled bounded
 
 -- ---- The starts of the open shards
 
--- The first keys of the ranges of the open shards among `xs`, in rising order.
+-- The first keys of the open shards' ranges, in rising order.
 abbrev pub open_starts : List ShardState → List ℕ
 open_starts xs = starts_among (filter is_open xs)
-
-zero_plus : (n : ℕ) → 0 + n ≡ n
-zero_plus n = omega arith
 
 member_by : (b : Bool) (x : ShardState) (xs : List ShardState) (k : ℕ)
     → is_start (open_starts xs) k ≡ nat_lt 0 (start_times xs k)
@@ -148,7 +141,7 @@ rising (x ∷ xs) few = rising_by (is_open x) x xs refl (few x.range.start) (ris
 
 -- ---- One open shard contains a key
 
--- Shard `sh` of `xs` is `x`, it is open, and its range contains the key `k`.
+-- Shard `sh` is `x`, it is open, and its range contains the key `k`.
 abbrev HasKey : List ShardState → ℕ → ℕ → ShardState → Type 0
 HasKey xs k sh x = (slice_get xs sh ≡ Some x) × (is_open x ≡ true) × Covers x.range k
 
@@ -172,7 +165,6 @@ here_alone : (y x : ShardState) (ys : List ShardState) (k sh : ℕ) → is_open 
 here_alone y x ys k sh open_now has h few =
     omega (arith, counted (is_open y) (one y.range k) open_now, covered y.range k has, has_some ys k sh x h, few)
 
--- If at most one open shard contains the key `k`, and the shards `i` and `j` are open and contain `k`, then `i` is `j`.
 pub only_one : (xs : List ShardState) (k i j : ℕ) (x y : ShardState) → open_times xs k ≤ 1 → HasKey xs k i x
     → HasKey xs k j y → i ≡ j
 only_one [] k i j x y few h g = absurd cc
@@ -194,7 +186,7 @@ only_one (z ∷ zs) k (suc i) zero x y few h g =
 only_one (z ∷ zs) k (suc i) (suc j) x y few h g =
     ap suc (only_one zs k i j x y (omega arith) (h.0, h.1, h.2) (g.0, g.1, g.2))
 
--- Shard `sh` of `xs` is `x`, it is open, and its range starts at the key `b`.
+-- Shard `sh` is `x`, it is open, and its range starts at the key `b`.
 pub record Starts (xs : List ShardState) (b sh : ℕ) (x : ShardState) : Type 0 where
   pub stands : slice_get xs sh ≡ Some x
   pub is_open_now : is_open x ≡ true
@@ -226,15 +218,12 @@ starts_there (x ∷ xs) k some = starts_by (is_open x) x xs k refl some (starts_
 
 -- ---- What a scaling needs of the shards of a stream
 
--- What a scaling needs of the shards `xs` of a stream. The ranges of the open shards partition the hash keys, all
--- ranges end below 2^128, and the shards are numbered from 0.
+-- What a scaling needs of a stream's shards.
 pub record IsScalable (xs : List ShardState) : Type 0 where
   pub tiled : IsTiled xs
   pub bounded : AllByRecursion IsBounded xs
   pub numbered : AreNumbered 0 xs
 
--- If the shards `xs` are scalable (`IsScalable`), the first keys of the ranges of the open ones (`open_starts`) rise
--- strictly.
 pub rise_open : (xs : List ShardState) → IsScalable xs → RiseFrom 0 (open_starts xs)
 rise_open xs ok = rising xs (λ k. once xs k ok.tiled ok.bounded)
 
@@ -244,13 +233,12 @@ bounded-at [] sh x is h = absurd cc
 bounded-at (y ∷ ys) zero x is h = let e : y ≡ x = cc in omega (arith, h.0, ap (λ (z : ShardState). z.range.end) e)
 bounded-at (y ∷ ys) (suc sh) x is h = bounded-at ys sh x is h.1
 
--- The search `home_among` finds the shard `x` for the key `k`, and `x` is open and contains `k`.
+-- The search for the home of the key `k` finds the open shard `x`, which contains it.
 pub record IsHomeOf (xs : List ShardState) (k : ℕ) (x : ShardState) : Type 0 where
   pub stands : slice_get xs (home_among (filter is_open xs) k) ≡ Some x
   pub is_open_now : is_open x ≡ true
   pub contains : Covers x.range k
 
--- If the shards `xs` are scalable (`IsScalable`), each hash key `k` has a home `x` among them (`IsHomeOf`).
 pub home_of : (xs : List ShardState) (k : ℕ) → IsScalable xs → k < 2 ^ 128 → (x : ShardState) × IsHomeOf xs k x
 home_of xs k ok below =
     let f = home_found xs 0 k ok.numbered (omega (arith, ok.tiled.times k below)) in
@@ -263,15 +251,13 @@ home_of xs k ok below =
       },
     )
 
--- If `x` is at the index `i`, `y` is at the index `j`, and `i` is `j`, then `x` is `y`.
 same_shard : (xs : List ShardState) (i j : ℕ) (x y : ShardState) → slice_get xs i ≡ Some x → slice_get xs j ≡ Some y
     → i ≡ j → x ≡ y
-same_shard xs i j x y h g e = same_some x y (sym h ∙ ap (slice_get xs) e ∙ g)
+same_shard xs i j x y h g e = same_Some x y (sym h ∙ ap (slice_get xs) e ∙ g)
 
 -- ---- A merge at a start
 
--- A merge at the key `b` is of the shards `low` and `high`. The shard `low` is the home of the key before `b`, and its
--- range ends at this key. The shard `high` is the home of `b`, and its range starts at `b`.
+-- The shards of a merge at the key `b`: `low` ends right before `b`, and `high` starts at `b`.
 pub record Joins (xs : List ShardState) (b : ℕ) : Type 0 where
   pub low : ShardState
   pub high : ShardState
@@ -283,24 +269,22 @@ pub record Joins (xs : List ShardState) (b : ℕ) : Type 0 where
 touches_by : (c : Bool) (xs : List ShardState) (b : ℕ) (low high : ShardState) → IsScalable xs → 0 < b → b < 2 ^ 128
     → IsHomeOf xs (b - 1) low → IsHomeOf xs b high → high.range.start ≡ b → nat_le b low.range.end ≡ c
     → low.range.end + 1 ≡ high.range.start
-touches_by true xs b low high ok some below lh hh at is =
-    let from : low.range.start ≤ b - 1 = lh.contains.0 in
-    let to : b ≤ low.range.end = grind (arith, nat_tests) in
+touches_by true xs b low high ok some below lh hh is_at is =
+    let is_from : low.range.start ≤ b - 1 = lh.contains.0 in
+    let is_to : b ≤ low.range.end = grind (arith, nat_tests) in
     let start : low.range.start ≤ b = omega arith in
     let same = only_one xs b _ _ low high (omega (arith, ok.tiled.times b below)) (
       lh.stands,
       lh.is_open_now,
-      (start, to),
+      (start, is_to),
     ) (hh.stands, hh.is_open_now, hh.contains) in
     let e : low ≡ high = same_shard xs _ _ low high lh.stands hh.stands same in
-    absurd (omega (arith, from, ap (λ (z : ShardState). z.range.start) e, at, some))
-touches_by false xs b low high ok some below lh hh at is =
-    let from : b - 1 ≤ low.range.end = lh.contains.1 in
-    let to : low.range.end < b = grind (arith, nat_tests) in
-    omega (arith, at)
+    absurd (omega (arith, is_from, ap (λ (z : ShardState). z.range.start) e, is_at, some))
+touches_by false xs b low high ok some below lh hh is_at is =
+    let is_from : b - 1 ≤ low.range.end = lh.contains.1 in
+    let is_to : low.range.end < b = grind (arith, nat_tests) in
+    omega arith
 
--- If the shards `xs` are scalable, `b` isn't 0 and an open shard starts at `b`, there are two shards for a merge at `b`
--- (`Joins`).
 pub joins : (xs : List ShardState) (b : ℕ) → IsScalable xs → 0 < b → is_start (open_starts xs) b ≡ true → Joins xs b
 joins xs b ok some m =
     let s = starts_there xs b (sym (member xs b) ∙ m) in
@@ -318,14 +302,14 @@ joins xs b ok some m =
       high.1.contains,
     ) (s.2.stands, s.2.is_open_now, (low_end, high_end)) in
     let e : high.0 ≡ s.1 = same_shard xs _ s.0 high.0 s.1 high.1.stands s.2.stands same in
-    let at : high.0.range.start ≡ b = ap (λ (z : ShardState). z.range.start) e ∙ at_b in
+    let is_at : high.0.range.start ≡ b = ap (λ (z : ShardState). z.range.start) e ∙ at_b in
     record {
       low = low.0;
       high = high.0;
       low_home = low.1;
       high_home = high.1;
-      touch = touches_by (nat_le b low.0.range.end) xs b low.0 high.0 ok some below low.1 high.1 at refl;
-      at = at;
+      touch = touches_by (nat_le b low.0.range.end) xs b low.0 high.0 ok some below low.1 high.1 is_at refl;
+      at = is_at;
     }
 
 follow_so : (a b : Span) → a.end + 1 ≡ b.start → is_followed_by a b ≡ true
@@ -334,7 +318,6 @@ follow_so a b h = grind (arith, nat_tests)
 adjacent_so : (a b : Span) → a.end + 1 ≡ b.start → are_adjacent a b ≡ true
 adjacent_so a b h = ap (λ (r : Bool). r || is_followed_by b a) (follow_so a b h)
 
--- The ranges of the two shards of a merge are adjacent.
 pub joins_touch : (xs : List ShardState) (b : ℕ) (j : Joins xs b) → are_adjacent j.low.range j.high.range ≡ true
 joins_touch xs b j = adjacent_so j.low.range j.high.range j.touch
 
@@ -349,11 +332,10 @@ joins_differ : (xs : List ShardState) (b : ℕ) → 0 < b → (j : Joins xs b)
     → home_among (filter is_open xs) (b - 1) ≡ home_among (filter is_open xs) b → ⊥
 joins_differ xs b some j e =
     let same : j.low ≡ j.high = same_shard xs _ _ j.low j.high j.low_home.stands j.high_home.stands e in
-    let from : j.low.range.start ≤ b - 1 = j.low_home.contains.0 in
-    omega (arith, from, ap (λ (z : ShardState). z.range.start) same, j.at, some)
+    let is_from : j.low.range.start ≤ b - 1 = j.low_home.contains.0 in
+    omega (arith, is_from, ap (λ (z : ShardState). z.range.start) same, j.at, some)
 
--- The shards `xs` after the merge at the key `b`, which closes two shards by `closing`. The child's starting sequence
--- number is `start`.
+-- The shards after a merge at the key `b`; `start` is the child's starting sequence number.
 abbrev pub after_join : List ShardState → ℕ → Closing → ℕ → List ShardState
 after_join xs b closing start =
     merged_shards (home_among (filter is_open xs) (b - 1)) (home_among (filter is_open xs) b) closing start xs
@@ -380,14 +362,14 @@ times_joined xs b closing start k some j =
 
 left_by : (c : Bool) (h b k a t : ℕ) → (k == b) ≡ c → a + (if h == k then 1 else 0) ≡ t → h ≡ b → t ≤ 1
     → nat_lt 0 a ≡ (not (k == b) && nat_lt 0 t)
-left_by true h b k a t is sum at few =
+left_by true h b k a t is sum is_at few =
     let z : a ≡ 0 = grind (arith, nat_tests) in
     ap (nat_lt 0) z ∙ ap (λ (r : Bool). not r && nat_lt 0 t) (sym is)
-left_by false h b k a t is sum at few =
+left_by false h b k a t is sum is_at few =
     let z : a ≡ t = grind (arith, nat_tests) in
     ap (nat_lt 0) z ∙ ap (λ (r : Bool). not r && nat_lt 0 t) (sym is)
 
--- After the merge at `b` of scalable shards, the first keys of the open shards are those before the merge, without `b`.
+-- A merge at `b` removes only this start.
 pub starts_joined : (xs : List ShardState) (b : ℕ) (closing : Closing) (start : ℕ) → IsScalable xs → 0 < b → Joins xs b
     → open_starts (after_join xs b closing start) ≡ without b (open_starts xs)
 starts_joined xs b closing start ok some j =
@@ -422,23 +404,20 @@ joined_bounded a b h g =
     chosen_bounded (is_followed_by a b) (record { start = a.start; end = b.end })
     (record { start = b.start; end = a.end }) g h
 
--- If all ranges end below 2^128, the range of the shard at the index `sh` does so too.
 pub range_bounded : (xs : List ShardState) (sh : ℕ) (o : Option ShardState) → slice_get xs sh ≡ o
     → AllByRecursion IsBounded xs → (range_of o).end < 2 ^ 128
 range_bounded xs sh None is h = omega arith
 range_bounded xs sh (Some x) is h = bounded-at xs sh x is h
 
--- If all ranges end below 2^128, they still do so after a merge.
 pub bounded_merged : (xs : List ShardState) (sh other : ℕ) (closing : Closing) (start : ℕ) → AllByRecursion IsBounded xs
     → AllByRecursion IsBounded (merged_shards sh other closing start xs)
 bounded_merged xs sh other closing start h =
     bounded-append _ _ (bounded-closed _ other closing (bounded-closed xs sh closing h))
     (joined_bounded _ _ (range_bounded xs sh _ refl h) (range_bounded xs other _ refl h), tt)
 
--- If all ranges end below 2^128, they still do so after a split at a key below 2^128.
-pub bounded_split : (xs : List ShardState) (sh at : ℕ) (closing : Closing) (start : ℕ) → at < 2 ^ 128
-    → AllByRecursion IsBounded xs → AllByRecursion IsBounded (split_shards sh at closing start xs)
-bounded_split xs sh at closing start below h =
+pub bounded_split : (xs : List ShardState) (sh hash : ℕ) (closing : Closing) (start : ℕ) → hash < 2 ^ 128
+    → AllByRecursion IsBounded xs → AllByRecursion IsBounded (split_shards sh hash closing start xs)
+bounded_split xs sh hash closing start below h =
     bounded-append _ _ (bounded-closed xs sh closing h)
     (omega arith, (range_bounded xs sh _ refl h, tt))
 
@@ -448,7 +427,6 @@ bounded_uniform w a zero i start wide fits = (omega arith, tt)
 bounded_uniform w a (suc n) i start wide fits =
     (omega arith, bounded_uniform w (a + w) n (i + 1) start wide (omega arith))
 
--- The ranges of a new stream with 1 to 500 shards end below 2^128.
 pub bounded_new : (count start : ℕ) → 1 ≤ count → count ≤ 500
     → AllByRecursion IsBounded (first_shards 0 start (uniform count))
 bounded_new zero start low high = absurd (omega arith)
@@ -456,26 +434,22 @@ bounded_new (suc n) start low high =
     let f = width_fits n (2 ^ 128 / suc n) (2 ^ 128 % suc n) (omega arith) (omega arith) high in
     bounded_uniform (2 ^ 128 / suc n) 0 n 0 start f.0 (omega (arith, f.1))
 
--- Let the last `n + 1` uniform ranges begin at the key `a` and have the width `w`. If `a + n * w` is below 2^128, so
--- are the first keys of these ranges.
 below_uniform : (w a n : ℕ) → a + n * w < 2 ^ 128
     → AllByRecursion (λ b. b < 2 ^ 128) (starts_of (uniform_from w a (suc n)))
 below_uniform w a zero fits = (omega arith, tt)
 below_uniform w a (suc n) fits = (omega arith, below_uniform w (a + w) n (omega arith))
 
--- The first keys of 1 to 500 uniform ranges are below 2^128.
 pub below_wanted : (n : ℕ) → 1 ≤ n → n ≤ 500 → AllByRecursion (λ b. b < 2 ^ 128) (uniform_starts n)
 below_wanted zero low high = absurd (omega arith)
 below_wanted (suc n) low high =
     let f = width_fits n (2 ^ 128 / suc n) (2 ^ 128 % suc n) (omega arith) (omega arith) high in
     below_uniform (2 ^ 128 / suc n) 0 n (omega (arith, f.1))
 
-length_uniform : (w a n : ℕ) → length (starts_of (uniform_from w a n)) ≡ n
+pub length_uniform : (w a n : ℕ) → length (starts_of (uniform_from w a n)) ≡ n
 length_uniform w a zero = refl
 length_uniform w a (suc zero) = refl
 length_uniform w a (suc (suc n)) = ap suc (length_uniform w (a + w) (suc n))
 
--- There are `n` first keys of `n` uniform ranges.
 pub length_wanted : (n : ℕ) → length (uniform_starts n) ≡ n
 length_wanted n = length_uniform (2 ^ 128 / n) 0 n
 
@@ -484,12 +458,10 @@ placed_length : (lt : Bool) (b x : ℕ) (xs : List ℕ) → length (with_start b
 placed_length true b x xs h = refl
 placed_length false b x xs h = ap suc h
 
--- After a start is inserted into a list, the list has one more element.
 pub length_with : (b : ℕ) (xs : List ℕ) → length (with_start b xs) ≡ suc (length xs)
 length_with b [] = refl
 length_with b (x ∷ xs) = placed_length (nat_lt b x) b x xs (length_with b xs)
 
--- A list of shards has as many first keys as shards.
 pub length_starts : (xs : List ShardState) → length (starts_among xs) ≡ length xs
 length_starts [] = refl
 length_starts (x ∷ xs) = length_with x.range.start (starts_among xs) ∙ ap suc (length_starts xs)
@@ -503,13 +475,12 @@ numbered_merged xs sh other closing start h =
       tt,
     )
 
-numbered_split : (xs : List ShardState) (sh at : ℕ) (closing : Closing) (start : ℕ) → AreNumbered 0 xs
-    → AreNumbered 0 (split_shards sh at closing start xs)
-numbered_split xs sh at closing start h =
+numbered_split : (xs : List ShardState) (sh hash : ℕ) (closing : Closing) (start : ℕ) → AreNumbered 0 xs
+    → AreNumbered 0 (split_shards sh hash closing start xs)
+numbered_split xs sh hash closing start h =
     let len = length-closed sh closing xs in
     numbered-append 0 _ _ (numbered-closed 0 sh closing xs h) (omega arith, (omega arith, tt))
 
--- Shards stay scalable (`IsScalable`) after a merge at a key.
 pub scalable_joined : (xs : List ShardState) (b : ℕ) (closing : Closing) (start : ℕ) → IsScalable xs → (j : Joins xs b)
     → IsScalable (after_join xs b closing start)
 scalable_joined xs b closing start ok j =
@@ -533,8 +504,7 @@ scalable_joined xs b closing start ok j =
 
 -- ---- A split at a key at which no open shard starts
 
--- A split at the key `b` is of the shard `shard`, which is the home of `b`. The key `b` lies inside the range of this
--- shard, so that neither part of the range is empty.
+-- The shard of a split at the key `b`: its home, with `b` inside the range, so that neither part is empty.
 pub record Cuts (xs : List ShardState) (b : ℕ) : Type 0 where
   pub shard : ShardState
   pub is_home : IsHomeOf xs b shard
@@ -547,8 +517,6 @@ cuts_inside r b h differ = let low : r.start ≤ b = h.0 in let high : b ≤ r.e
 positive_so : (n : ℕ) → 1 ≤ n → nat_lt 0 n ≡ true
 positive_so n h = grind (arith, nat_tests)
 
--- If the shards `xs` are scalable and no open shard starts at the hash key `b`, there is a shard for a split at `b`
--- (`Cuts`).
 pub cuts : (xs : List ShardState) (b : ℕ) → IsScalable xs → b < 2 ^ 128 → is_start (open_starts xs) b ≡ false
     → Cuts xs b
 cuts xs b ok below m =
@@ -559,8 +527,7 @@ cuts xs b ok below m =
     cc in
     record { shard = f.0; is_home = f.1; inside = cuts_inside f.0.range b f.1.contains differ }
 
--- The shards `xs` after the split at the key `b`, which closes a shard by `closing`. The starting sequence number of
--- the children is `start`.
+-- The shards after a split at the key `b`; `start` is the children's starting sequence number.
 abbrev pub after_cut : List ShardState → ℕ → Closing → ℕ → List ShardState
 after_cut xs b closing start = split_shards (home_among (filter is_open xs) b) b closing start xs
 
@@ -595,8 +562,7 @@ few_by false b k a t is sum few gone = grind (arith, nat_tests)
 no_times : (n : ℕ) → nat_lt 0 n ≡ false → n ≡ 0
 no_times n h = grind (arith, nat_tests)
 
--- After the split at `b` of scalable shards, the first keys of the open shards are those before the split, with `b`
--- added.
+-- A split at `b` adds only this start.
 pub starts_cut : (xs : List ShardState) (b : ℕ) (closing : Closing) (start : ℕ) → IsScalable xs
     → is_start (open_starts xs) b ≡ false → Cuts xs b
     → open_starts (after_cut xs b closing start) ≡ with_start b (open_starts xs)
@@ -615,7 +581,6 @@ starts_cut xs b closing start ok m c =
     ∙ ap (λ (r : Bool). (b == k) || r) (sym (member xs k))
     ∙ sym (in_with_start b (open_starts xs) k))
 
--- Shards stay scalable (`IsScalable`) after a split at a key below 2^128.
 pub scalable_cut : (xs : List ShardState) (b : ℕ) (closing : Closing) (start : ℕ) → IsScalable xs → b < 2 ^ 128
     → (c : Cuts xs b) → IsScalable (after_cut xs b closing start)
 scalable_cut xs b closing start ok below c =

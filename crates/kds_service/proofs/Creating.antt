@@ -1,5 +1,4 @@
--- CreateStream is refused if a stream has the name, if there is no room, or if no number is left. Otherwise the service
--- has the new stream afterwards.
+-- CreateStream: its refusals in order, and the service with the new stream.
 use Rattle.std.proofs.Common.{◌≡◌, ℕ, ◌+◌, ◌<◌, true, false, List, [], ◌∷◌, ◌++◌, length, sym, ap, subst, ◌∙◌, arith}
 use Rattle.std.specs.Prelude.{◌==◌, ◌||◌, is_some, nat_le, nat_lt, Ok, Err}
 use Rattle.kds_defs.specs.declared.command.Command.TheVariants as command
@@ -21,7 +20,6 @@ use Rattle.kds_service.proofs.Readings.{live_count, open_are, some_named}
 use Rattle.kds_service.specs.Indexes.{is_full, index_by_name}
 use Rattle.kds_service.specs.Shown.{Leads, ServiceValue, ShowsAll, StaysShownWith, service}
 
--- Whether there is no room for a stream of `count` shards is the same by the journal as by the streams of the service.
 full : (w : ServiceValue) (log : Journal) (count : ℕ) → ShowsAll w log
     → (nat_le LIVE_STREAMS (length (live_streams log)) || nat_lt OPEN_SHARDS (open_count log + count))
     ≡ is_full w.streams count
@@ -29,66 +27,58 @@ full w log count all =
     ap (λ n. nat_le LIVE_STREAMS n || nat_lt OPEN_SHARDS (open_count log + count)) (live_count w log all)
     ∙ ap (λ n. nat_le LIVE_STREAMS (length w.streams) || nat_lt OPEN_SHARDS (n + count)) (open_are w log all)
 
--- A premise of the lemmas here, which the file `Lives` proves: if a new stream shows the journal with the line that
--- makes this stream, the service with this stream at the end shows this journal too.
+-- A service shows a new stream that shows its line; a premise here, proved in `Lives`.
 abbrev pub Adds : Type 0
-Adds = (c b n by count : ℕ) (name : List ℕ) (vs : List StreamValue) (v : StreamValue) (log : Journal)
+Adds = (c b n actor count : ℕ) (name : List ℕ) (vs : List StreamValue) (v : StreamValue) (log : Journal)
     → ShowsAll (service c b n vs) log
-    → StaysShownWith c b n vs log v by name count
+    → StaysShownWith c b n vs log v actor name count
 
 module _ (c b n : ℕ) (vs : List StreamValue) (name : List ℕ) (count : ℕ) where
-  -- If a stream has the name `name`, CreateStream is refused with StreamThere, and the service is unchanged.
   pub create_there : is_some (index_by_name vs name) ≡ true
       → Leads (service c b n vs) (service c b n vs) (command.Create name count) (Err refusal.StreamThere)
   create_there is =
       refused_leads (service c b n vs) (command.Create name count) refusal.StreamThere
-      (λ log by all. refused_if _ _ _ (some_named (service c b n vs) log name all ∙ is))
+      (λ log actor all. refused_if _ _ _ (some_named (service c b n vs) log name all ∙ is))
 
-  -- If no stream has the name `name`, but there is no room for `count` shards or for a further stream, CreateStream is
-  -- refused with Full, and the service is unchanged.
   pub create_full : is_some (index_by_name vs name) ≡ false → is_full vs count ≡ true
       → Leads (service c b n vs) (service c b n vs) (command.Create name count) (Err refusal.Full)
   create_full is at_limit =
       refused_leads (service c b n vs) (command.Create name count) refusal.Full
-      (λ log by all. passed_if _ _ _ (some_named (service c b n vs) log name all ∙ is)
+      (λ log actor all. passed_if _ _ _ (some_named (service c b n vs) log name all ∙ is)
       ∙ refused_if _ _ _ (full (service c b n vs) log count all ∙ at_limit))
 
-  -- Let no stream have the name, and let there be room. If `n`, the number of the latest stream, is the greatest
-  -- possible number, CreateStream is refused with Spent, and the service is unchanged.
   pub create_spent : is_some (index_by_name vs name) ≡ false → is_full vs count ≡ false → (n == last_number) ≡ true
       → Leads (service c b n vs) (service c b n vs) (command.Create name count) (Err refusal.Spent)
   create_spent is room last =
       refused_leads (service c b n vs) (command.Create name count) refusal.Spent
-      (λ log by all.
+      (λ log actor all.
       passed_if _ _ _ (some_named (service c b n vs) log name all ∙ is)
       ∙ passed_if _ _ _ (full (service c b n vs) log count all ∙ room)
       ∙ refused_if _ _ _ (ap (λ m. m == last_number) all.made ∙ last))
 
-  -- If no stream has the name, there is room, and a number is left, CreateStream is accepted, and the service has the
-  -- new stream `v` after the streams `vs`. The new stream's number is `m`.
   pub create_done : (m : ℕ) (ws : List StreamValue) (v : StreamValue) → Adds → is_some (index_by_name vs name) ≡ false
       → is_full vs count ≡ false
       → (n == last_number) ≡ false
       → m ≡ n + 1 → ws ≡ vs ++ (v ∷ []) → v.no ≡ m → v.clock ≡ c
-      → ((log : Journal) (by : ℕ) → IsFresh log m → Shows v (plain_line c by (entry.Made m name count) ∷ log))
+      → ((log : Journal) (actor : ℕ) → IsFresh log m → Shows v (plain_line c actor (entry.Made m name count) ∷ log))
       → Leads (service c b n vs) (service c b m ws) (command.Create name count) (Ok reply.Done)
-  create_done m ws v adds is room more next pushed no_is clock_is shows = λ log by all.
+  create_done m ws v adds is room more next pushed no_is clock_is shows = λ log actor all.
       let w = service c b n vs in
-      let line = plain_line c by (entry.Made (made_count log + 1) name count) in
-      let here = plain_line c by (entry.Made (n + 1) name count) in
-      let same : here ≡ line = ap (λ k. plain_line c by (entry.Made (k + 1) name count)) (sym all.made) in
+      let line = plain_line c actor (entry.Made (made_count log + 1) name count) in
+      let here = plain_line c actor (entry.Made (n + 1) name count) in
+      let same : here ≡ line = ap (λ k. plain_line c actor (entry.Made (k + 1) name count)) (sym all.made) in
       let shown : Shows v (here ∷ log) =
-      subst (λ k. Shows v (plain_line c by (entry.Made k name count) ∷ log)) next
-      (shows log by (all.unmade m (later m n next))) in
-      let decided : create log c by name count ≡ Accepted (line ∷ []) reply.Done =
+      subst (λ k. Shows v (plain_line c actor (entry.Made k name count) ∷ log)) next
+      (shows log actor (all.unmade m (later m n next))) in
+      let decided : create log c actor name count ≡ Accepted (line ∷ []) reply.Done =
       passed_if _ _ _ (some_named w log name all ∙ is)
       ∙ passed_if _ _ _ (full w log count all ∙ room)
       ∙ passed_if _ _ _ (ap (λ k. k == last_number) all.made ∙ more) in
-      after_accepted (create log c by name count) (line ∷ []) reply.Done log (ShowsAll (service c b m ws)) decided
+      after_accepted (create log c actor name count) (line ∷ []) reply.Done log (ShowsAll (service c b m ws)) decided
       (subst (λ k. ShowsAll (service c b k ws) (line ∷ log)) (sym next)
       (subst (λ us. ShowsAll (service c b (n + 1) us) (line ∷ log)) (sym pushed)
       (subst (λ l. ShowsAll (service c b (n + 1) (vs ++ (v ∷ []))) (l ∷ log)) same
-      (adds c b n by count name vs v log all (no_is ∙ next) clock_is shown))))
+      (adds c b n actor count name vs v log all (no_is ∙ next) clock_is shown))))
     where
       later : (m n : ℕ) → m ≡ n + 1 → n < m
       later m n h = omega arith

@@ -1,4 +1,4 @@
--- Names that the code has sorted are the names in the order of the definition (`names_in_order`).
+-- Names that the code has sorted are the names in the order of the definition.
 use Rattle.std.proofs.Common.{◌≡◌, ℕ, suc, ◌+◌, ◌<◌, ◌≤◌, Bool, true, false, List, [], ◌∷◌, ◌++◌, length, drop, map}
 use Rattle.std.proofs.Common.{get_or, slice_get, Some, Bor, refl, sym, ap, subst, ◌∙◌, arith}
 use Rattle.std.specs.Cmp.{IsStrictWeakOrder, tied_itself}
@@ -19,17 +19,15 @@ use Rattle.kds_service.specs.Shown.{names_of}
 
 -- ---- The order of two names
 
--- The code and the definition agree on whether a comparison's result is "less".
 pub less : (o : Ordering) → is_lt o ≡ is_less o
 less Less = refl
 less Equal = refl
 less Greater = refl
 
--- Whether the name that the reference `a` shows comes before the name that `b` shows.
+-- Whether the name in `a` comes before the name in `b`.
 abbrev pub shown_before : Bor (List ℕ) → Bor (List ℕ) → Bool
 shown_before a b = name_before a.now b.now
 
--- The order of elements by their names (`name`) is a strict weak order.
 pub before_orders : {X : Type 0} (name : X → List ℕ) → IsStrictWeakOrder (λ x y. name_before (name x) (name y))
 before_orders name = subst (λ (test : Ordering → Bool).
     IsStrictWeakOrder (λ x y. test (slice_cmp nat_cmp (name x) (name y)))) (λ i o. less o i)
@@ -38,22 +36,20 @@ before_orders name = subst (λ (test : Ordering → Bool).
 order : IsStrictWeakOrder name_before
 order = before_orders (λ name. name)
 
--- No name comes before itself.
 not_itself : (name : List ℕ) → name_before name name ≡ false
 not_itself name = ap is_less (tied_itself nat_list_cmp_total name)
 
--- If a comparison finds two names equal, they are the same name.
 one_name : (a b : List ℕ) → slice_cmp nat_cmp a b ≡ Equal → a ≡ b
 one_name a b tied = (bytes_decides a b).0 (texts_ties a b ∙ ap is_eq tied)
 
 -- ---- Names that rise
 
--- None of the names in a list comes before `name`.
+-- No name of the list comes before `name`.
 abbrev NotBefore : List ℕ → List (List ℕ) → Type 0
 NotBefore name [] = Unit {0}
 NotBefore name (n ∷ ns) = (name_before n name ≡ false) × NotBefore name ns
 
--- The names of a list are sorted: no name comes before an earlier one of the list.
+-- The names are sorted: none comes before an earlier one.
 abbrev AreRising : List (List ℕ) → Type 0
 AreRising [] = Unit {0}
 AreRising (n ∷ ns) = NotBefore n ns × AreRising ns
@@ -61,15 +57,13 @@ AreRising (n ∷ ns) = NotBefore n ns × AreRising ns
 not_before_with : (low name : List ℕ) (ns : List (List ℕ)) → name_before name low ≡ false → NotBefore low ns
     → NotBefore low (with_name name ns)
 not_before_with low name [] h rest = (h, tt)
-not_before_with low name (n ∷ ns) h rest = by (name_before name n) (not_before_with low name ns h rest.1)
+not_before_with low name (n ∷ ns) h rest = cases (name_before name n) (not_before_with low name ns h rest.1)
   where
-    by : (b : Bool) → NotBefore low (with_name name ns)
+    cases : (b : Bool) → NotBefore low (with_name name ns)
         → NotBefore low (if b then name ∷ n ∷ ns else n ∷ with_name name ns)
-    by true more = (h, rest)
-    by false more = (rest.0, more)
+    cases true more = (h, rest)
+    cases false more = (rest.0, more)
 
--- If no name in a list comes before `name`, and `name` doesn't come before `low`, no name in this list comes before
--- `low`.
 not_before_lower : (low name : List ℕ) (ns : List (List ℕ)) → name_before name low ≡ false → NotBefore name ns
     → NotBefore low ns
 not_before_lower low name [] h rest = tt
@@ -77,14 +71,14 @@ not_before_lower low name (n ∷ ns) h rest = (order.chain n name low rest.0 h, 
 
 rising_with : (name : List ℕ) (ns : List (List ℕ)) → AreRising ns → AreRising (with_name name ns)
 rising_with name [] up = (tt, tt)
-rising_with name (n ∷ ns) up = by (name_before name n) refl (rising_with name ns up.1)
+rising_with name (n ∷ ns) up = cases (name_before name n) refl (rising_with name ns up.1)
   where
-    by : (b : Bool) → name_before name n ≡ b → AreRising (with_name name ns)
+    cases : (b : Bool) → name_before name n ≡ b → AreRising (with_name name ns)
         → AreRising (if b then name ∷ n ∷ ns else n ∷ with_name name ns)
-    by true h more =
+    cases true h more =
         let after = order.one_way name n h in
         ((after, not_before_lower name n ns after up.0), up)
-    by false h more = (not_before_with n name ns h up.0, more)
+    cases false h more = (not_before_with n name ns h up.0, more)
 
 in_order_rise : (ns : List (List ℕ)) → AreRising (names_in_order ns)
 in_order_rise [] = tt
@@ -94,18 +88,18 @@ in_order_rise (n ∷ ns) = rising_with n (names_in_order ns) (in_order_rise ns)
 
 sum_with : (f : List ℕ → ℕ) (name : List ℕ) (ns : List (List ℕ)) → sum_by f (with_name name ns) ≡ f name + sum_by f ns
 sum_with f name [] = sum_by-cons f name []
-sum_with f name (n ∷ ns) = by (name_before name n) (sum_with f name ns)
+sum_with f name (n ∷ ns) = cases (name_before name n) (sum_with f name ns)
   where
-    by : (b : Bool) → sum_by f (with_name name ns) ≡ f name + sum_by f ns
+    cases : (b : Bool) → sum_by f (with_name name ns) ≡ f name + sum_by f ns
         → sum_by f (if b then name ∷ n ∷ ns else n ∷ with_name name ns) ≡ f name + sum_by f (n ∷ ns)
-    by true h = sum_by-cons f name (n ∷ ns)
-    by false h = omega (arith, sum_by-cons f n (with_name name ns), h, sum_by-cons f n ns)
+    cases true h = sum_by-cons f name (n ∷ ns)
+    cases false h = omega (arith, sum_by-cons f n (with_name name ns), h, sum_by-cons f n ns)
 
 sum_in_order : (f : List ℕ → ℕ) (ns : List (List ℕ)) → sum_by f (names_in_order ns) ≡ sum_by f ns
 sum_in_order f [] = refl
 sum_in_order f (n ∷ ns) = omega (arith, sum_with f n (names_in_order ns), sum_in_order f ns, sum_by-cons f n ns)
 
--- The number 1 if the name `n` comes before `name`, and otherwise 0.
+-- The number 1 if `n` comes before `name`, and otherwise 0.
 abbrev before : List ℕ → List ℕ → ℕ
 before name n = if name_before n name then 1 else 0
 
@@ -117,8 +111,6 @@ none_before name (n ∷ ns) rest =
 
 -- ---- Sorted lists are equal if as many of their names come before each name
 
--- Let no name of `ys` come before `y`, and let as many names of `x ∷ xs` as of `y ∷ ys` come before `y`. Then `x`
--- doesn't come before `y`.
 first_not_before : (x y : List ℕ) (xs ys : List (List ℕ)) → NotBefore y ys
     → sum_by (before y) (x ∷ xs) ≡ sum_by (before y) (y ∷ ys) → name_before x y ≡ true → ⊥
 first_not_before x y xs ys rest same h =
@@ -165,8 +157,6 @@ shown_rise (x ∷ xs) h = (
   shown_rise xs (λ i j d up below. h (suc i) (suc j) d (omega arith) (omega arith)),
 )
 
--- If `ys` has the references of `xs`, sorted by their names, the names of `ys` are those of `xs` in the order of the
--- definition.
 pub sorted_names : (xs ys : List (Bor (List ℕ))) → IsPermutation xs ys → IsSortedBy shown_before ys
     → map (λ n. n.now) ys ≡ names_in_order (map (λ n. n.now) xs)
 sorted_names xs ys moved sorted =
@@ -177,8 +167,6 @@ sorted_names xs ys moved sorted =
     (λ f. sum_by-IsPermutation f names (map (λ n. n.now) ys)
     (IsPermutation-map (λ (n : Bor (List ℕ)). n.now) xs ys moved) ∙ sym (sum_in_order f names))
 
--- Let the name of the stream at the index `i` be appended to the names so far. Then the names so far, followed by those
--- of the streams still to come, are the same list as before.
 pub names_step : (vs : List StreamValue) (i : ℕ) (x : StreamValue) (name : Bor (List ℕ))
     (so_far more : List (Bor (List ℕ))) → slice_get vs i ≡ Some x → name.now ≡ x.name → more ≡ so_far ++ name ∷ []
     → map (λ n. n.now) more ++ names_of (drop (i + 1) vs) ≡ map (λ n. n.now) so_far ++ names_of (drop i vs)
@@ -190,7 +178,6 @@ names_step vs i x name so_far more here named pushed =
     ∙ ap (λ n. map (λ n. n.now) so_far ++ n ∷ left) named
     ∙ ap (λ us. map (λ n. n.now) so_far ++ names_of us) (sym (drop_get vs i x here))
 
--- If no stream is still to come at the index `i`, the names so far are those of all streams.
 pub names_done : (vs : List StreamValue) (i : ℕ) (names : List (Bor (List ℕ))) → length vs ≤ i
     → map (λ n. n.now) names ++ names_of (drop i vs) ≡ names_of vs → map (λ n. n.now) names ≡ names_of vs
 names_done vs i names past all =

@@ -15,21 +15,18 @@ named log [] shown = refl
 named log (v ∷ vs) shown = ap (λ n. n ∷ map (name_of log) (numbers_of vs)) shown.0.stored.named
     ∙ ap (λ ns. v.name ∷ ns) (named log vs shown.1)
 
--- The names after `after`, in order, are the same in the journal as in the service. If `after` is None, they are all
--- names.
 after_are : (w : ServiceValue) (log : Journal) (after : Option (List ℕ)) → ShowsAll w log
     → names_after log after ≡ filter (is_after_name after) (names_in_order (names_of w.streams))
 after_are w log after all =
     ap (λ ns. filter (is_after_name after) (names_in_order ns)) (ap (map (name_of log)) (live_are w log all)
     ∙ named log w.streams all.shown)
 
--- ListStreams is answered with the first `limit` names after `after`, in order, and with whether more names follow. The
--- streams are unchanged.
+-- The answer has the first `limit` names after `after`, and says whether more follow.
 pub streams_listed : (c : ℕ) (vs : List StreamValue) (after : Option (List ℕ)) (limit : ℕ) (names : List (List ℕ))
     (more : Bool) → names ≡ take limit (filter (is_after_name after) (names_in_order (names_of vs)))
     → more ≡ are_more limit (filter (is_after_name after) (names_in_order (names_of vs)))
     → LeadsTo c vs vs (command.Streams after limit) (Ok (reply.Streams names more))
-streams_listed c vs after limit names more first rest = λ b n log by all. (
+streams_listed c vs after limit names more first rest = λ b n log actor all. (
   ap (λ ns. Ok (reply.Streams ns more)) first
       ∙ ap (λ m. Ok (reply.Streams (take limit (filter (is_after_name after) (names_in_order (names_of vs)))) m)) rest
       ∙ ap (λ ns. Ok (reply.Streams (take limit ns) (are_more limit ns)))

@@ -1,4 +1,4 @@
--- A service and each journal that it shows agree on the live streams, their names and their numbers of open shards.
+-- A service and each journal that it shows agree on live streams, their names and their open shards.
 use Rattle.std.proofs.Common.{◌≡◌, ◌≢◌, ℕ, zero, suc, ◌+◌, ◌<◌, ◌≤◌, Bool, true, false, ◌==◌, cond, List, [], ◌∷◌}
 use Rattle.std.proofs.Common.{length, map, slice_get, Option, Some}
 use Rattle.std.proofs.Common.{None, refl, sym, ap, subst, ◌∙◌, arith}
@@ -7,15 +7,16 @@ use Rattle.std.specs.Cmp.Lexicographic.{bytes_decides, nat_list_eq_equiv}
 use Rattle.std.specs.List.{find, filter, position_from}
 use Rattle.std.proofs.lemmas.Bool.{eqb-false, eqb-true, or_from}
 use Rattle.std.proofs.lemmas.List.{length-map}
-use Rattle.std.proofs.lemmas.Option.{none-some}
-use Rattle.kds_base.proofs.Facts.{above_so, apart, chosen, is_itself, is_other, le_so, same_some}
+use Rattle.std.proofs.lemmas.Option.{none-some, same_Some}
+use Rattle.kds_base.proofs.Facts.{above_so, apart, chosen, is_itself, is_other, le_so}
+use Rattle.kds_base.proofs.WideLemmas.{by_test}
 use Rattle.kds_defs.specs.Journal.{Journal}
 use Rattle.kds_defs.specs.Shards.{is_open, open_count, open_in}
 use Rattle.kds_defs.specs.Streams.{is_live, live_streams, name_of, numbers_from, same_name, stream_named}
 use Rattle.kds_defs.specs.Subjects.{IsFresh}
 use Rattle.kds_stream.specs.Showing.{Shows}
 use Rattle.kds_stream.specs.Value.{StreamValue}
-use Rattle.kds_service.proofs.Lists.{AreUpTo, above, either_way, not_below, rising_from}
+use Rattle.kds_service.proofs.Lists.{AreUpTo, above, not_below, rising_from}
 use Rattle.kds_defs.specs.ScaleCommands.{open_elsewhere}
 use Rattle.kds_service.specs.Indexes.{open_beside, open_total, open_unless, index_by_name}
 use Rattle.kds_service.specs.Shown.{AreShown, IsRising, ServiceValue, ShowsAll, is_among, names_of, numbers_of}
@@ -26,14 +27,12 @@ not_chosen false x y h = refl
 
 -- ---- The live streams
 
--- Let the journal be new to each stream number above `n` (`IsFresh`). Then the number of each stream that shows the
--- journal is at most `n`.
 pub up_to : (n : ℕ) (vs : List StreamValue) (log : Journal) → AreShown log vs → ((s : ℕ) → n < s → IsFresh log s)
     → AreUpTo n vs
 up_to n [] log shown unmade = tt
 up_to n (v ∷ vs) log shown unmade =
     let low =
-    either_way (nat_le v.no n) (λ e. le_so v.no n e)
+    by_test (nat_le v.no n) (λ e. le_so v.no n e)
     (λ e. absurd (apart (is_live log v.no) shown.0.stored.live (unmade v.no (above_so v.no n e)).gone)) in
     (low, up_to n vs log shown.1 unmade)
 
@@ -46,7 +45,6 @@ none_live log low (suc count) dead =
     (dead (low + 1) (omega arith))
     ∙ none_live log (low + 1) count (λ s above. dead s (omega arith))
 
--- Of the `count` numbers above `low`, those that are live in the journal are the numbers of the streams `vs`.
 live_above : (log : Journal) (low count : ℕ) (vs : List StreamValue) → IsRising low (numbers_of vs)
     → AreUpTo (low + count) vs → AreShown log vs
     → ((s : ℕ) → low < s → is_among (numbers_of vs) s ≡ false → is_live log s ≡ false)
@@ -55,7 +53,7 @@ live_above log low count [] rising below shown others = none_live log low count 
 live_above log low zero (v ∷ vs) rising below shown others = absurd (omega (arith, rising.0, below.0))
 live_above log low (suc count) (v ∷ vs) rising below shown others =
     let rest = filter (is_live log) (numbers_from (low + 1 + 1) count) in
-    either_way (v.no == low + 1)
+    by_test (v.no == low + 1)
     (λ e.
     let same = eqb-true v.no (low + 1) e in
     let live : is_live log (low + 1) ≡ true = ap (is_live log) (sym same) ∙ shown.0.stored.live in
@@ -85,11 +83,10 @@ live_above log low (suc count) (v ∷ vs) rising below shown others =
     later : (n low : ℕ) → (n == low + 1) ≡ false → low < n → low + 1 < n
     later n low e above = let differ : n ≢ low + 1 = eqb-false n (low + 1) e in omega (arith, above)
 
--- A number is the sum of 0 and itself.
 pub from_zero : (n : ℕ) → n ≡ 0 + n
 from_zero n = omega arith
 
--- The live streams of the journal are those of the service, in the same order.
+-- The live streams of the journal are the service's, in the same order.
 pub live_are : (w : ServiceValue) (log : Journal) → ShowsAll w log → live_streams log ≡ numbers_of w.streams
 live_are w log all =
     ap (λ n. filter (is_live log) (numbers_from 1 n)) all.made
@@ -98,7 +95,6 @@ live_are w log all =
     all.shown
     (λ s above out. all.others s out)
 
--- The journal has as many live streams as the service.
 pub live_count : (w : ServiceValue) (log : Journal) → ShowsAll w log → length (live_streams log) ≡ length w.streams
 live_count w log all = ap length (live_are w log all) ∙ length-map w.streams (λ v. v.no)
 
@@ -109,67 +105,56 @@ opens log [] shown = refl
 opens log (v ∷ vs) shown =
     omega (arith, ap (λ xs. length (filter is_open xs)) shown.0.stored.shards_are, opens log vs shown.1)
 
--- The journal has as many open shards as all streams of the service together.
 pub open_are : (w : ServiceValue) (log : Journal) → ShowsAll w log → open_count log ≡ open_total w.streams
 open_are w log all = ap (open_in log) (live_are w log all) ∙ opens log w.streams all.shown
 
 -- ---- The stream with a name
 
--- If the first element passes the test `p`, a search that counts from `n` finds the index `n`.
 pub hit : {X : Type 0} (p : X → Bool) (n : ℕ) (x : X) (xs : List X) → p x ≡ true → position_from p n (x ∷ xs) ≡ Some n
 hit p n x xs e = ap (λ b. cond b (Some n) (position_from p (n + 1) xs)) e
 
--- If the first element doesn't pass the test `p`, the search finds what a search among the other elements finds,
--- counted from `n + 1`.
 pub missed : {X : Type 0} (p : X → Bool) (n : ℕ) (x : X) (xs : List X) → p x ≡ false
     → position_from p n (x ∷ xs) ≡ position_from p (n + 1) xs
 missed p n x xs e = ap (λ b. cond b (Some n) (position_from p (n + 1) xs)) e
 
--- A search that counts from `n` finds no index below `n`.
 from_on : {X : Type 0} (p : X → Bool) (n j : ℕ) (xs : List X) → position_from p n xs ≡ Some j → n ≤ j
 from_on p n j [] is = absurd (none-some j is)
 from_on p n j (x ∷ xs) is =
-    either_way (p x) (λ e. let same : n ≡ j = same_some n j (sym (hit p n x xs e) ∙ is) in omega arith)
+    by_test (p x) (λ e. let same : n ≡ j = same_Some n j (sym (hit p n x xs e) ∙ is) in omega arith)
     (λ e. let rest = from_on p (n + 1) j xs (sym (missed p n x xs e) ∙ is) in omega arith)
 
--- If the search that counts from `n` finds `n`, the first element passes the test `p`.
 pub first_passes : {X : Type 0} (p : X → Bool) (n : ℕ) (x : X) (xs : List X) → position_from p n (x ∷ xs) ≡ Some (n + 0)
     → p x ≡ true
 first_passes p n x xs is =
-    either_way (p x) (λ e. e) (λ e. absurd (short n (from_on p (n + 1) (n + 0) xs (sym (missed p n x xs e) ∙ is))))
+    by_test (p x) (λ e. e) (λ e. absurd (short n (from_on p (n + 1) (n + 0) xs (sym (missed p n x xs e) ∙ is))))
   where
     short : (n : ℕ) → n + 1 ≤ n + 0 → ⊥
     short n h = absurd (omega arith)
 
--- If the search that counts from `n` finds a later index, the first element doesn't pass the test `p`, and a search
--- among the other elements finds this index.
 pub later_fails : {X : Type 0} (p : X → Bool) (n i : ℕ) (x : X) (xs : List X)
     → position_from p n (x ∷ xs) ≡ Some (n + suc i)
     → (p x ≡ false) × (position_from p (n + 1) xs ≡ Some (n + 1 + i))
 later_fails p n i x xs is =
     let one : n + suc i ≡ n + 1 + i = omega arith in
-    either_way (p x) (λ e. absurd (past n i (same_some n (n + suc i) (sym (hit p n x xs e) ∙ is))))
+    by_test (p x) (λ e. absurd (past n i (same_Some n (n + suc i) (sym (hit p n x xs e) ∙ is))))
     (λ e. (e, sym (missed p n x xs e) ∙ is ∙ ap Some one))
   where
     past : (n i : ℕ) → n ≡ n + suc i → ⊥
     past n i h = absurd (omega arith)
 
--- If the search among the values of `f` finds an index, the value of the element at this index passes the test `p`.
 pub found_passes : {X Y : Type 0} (f : X → Y) (p : Y → Bool) (n i : ℕ) (xs : List X) (x : X)
     → position_from p n (map f xs) ≡ Some (n + i)
     → slice_get xs i ≡ Some x → p (f x) ≡ true
 found_passes f p n i [] x is here = absurd (none-some x here)
 found_passes f p n zero (y ∷ ys) x is here =
-    ap (λ z. p (f z)) (sym (same_some y x here)) ∙ first_passes p n (f y) (map f ys) is
+    ap (λ z. p (f z)) (sym (same_Some y x here)) ∙ first_passes p n (f y) (map f ys) is
 found_passes f p n (suc i) (y ∷ ys) x is here =
     found_passes f p (n + 1) i ys x (later_fails p n i (f y) (map f ys) is).1 here
 
--- If the search finds no index, the first element doesn't pass the test `p`, and the search among the other elements
--- finds none.
 pub none_passes : {X : Type 0} (p : X → Bool) (n : ℕ) (x : X) (xs : List X) → position_from p n (x ∷ xs) ≡ None
     → (p x ≡ false) × (position_from p (n + 1) xs ≡ None)
 none_passes p n x xs none =
-    either_way (p x) (λ e. absurd (none-some n (sym none ∙ hit p n x xs e))) (λ e. (e, sym (missed p n x xs e) ∙ none))
+    by_test (p x) (λ e. absurd (none-some n (sym none ∙ hit p n x xs e))) (λ e. (e, sym (missed p n x xs e) ∙ none))
 
 same_names : (log : Journal) (v : StreamValue) (name : List ℕ) → Shows v log
     → same_name (name_of log v.no) name ≡ same_name name v.name
@@ -189,7 +174,7 @@ module _ (log : Journal) (name : List ℕ) where
   named_from n i [] x shown is here = absurd (none-some x here)
   named_from n zero (v ∷ vs) x shown is here =
       here_or_rest v vs true shown.0 (first_passes (same_name name) n v.name (names_of vs) is)
-      ∙ ap (λ (u : StreamValue). Some u.no) (same_some v x here)
+      ∙ ap (λ (u : StreamValue). Some u.no) (same_Some v x here)
   named_from n (suc i) (v ∷ vs) x shown is here =
       let rest = later_fails (same_name name) n i v.name (names_of vs) is in
       here_or_rest v vs false shown.0 rest.0 ∙ named_from (n + 1) i vs x shown.1 rest.1 here
@@ -202,7 +187,7 @@ module _ (log : Journal) (name : List ℕ) where
       let rest = none_passes (same_name name) n v.name (names_of vs) none in
       here_or_rest v vs false shown.0 rest.0 ∙ none_named_from (n + 1) vs shown.1 rest.1
 
--- The stream at the index that the service finds for the name `name` is the live stream of this name in the journal.
+-- The stream that the service finds by a name is the live stream of this name.
 pub named_at : (w : ServiceValue) (log : Journal) (name : List ℕ) (i : ℕ) (x : StreamValue) → ShowsAll w log
     → index_by_name w.streams name ≡ Some i
     → slice_get w.streams i ≡ Some x → stream_named log name ≡ Some x.no
@@ -210,14 +195,13 @@ named_at w log name i x all is here =
     ap (find (λ s. same_name (name_of log s) name)) (live_are w log all)
     ∙ named_from log name 0 i w.streams x all.shown (is ∙ ap Some (from_zero i)) here
 
--- If no stream of the service has the name `name`, no live stream in the journal has it.
+-- A name that no stream of the service has is no live stream's name.
 pub none_named : (w : ServiceValue) (log : Journal) (name : List ℕ) → ShowsAll w log
     → index_by_name w.streams name ≡ None
     → stream_named log name ≡ None
 none_named w log name all none = ap (find (λ s. same_name (name_of log s) name)) (live_are w log all)
     ∙ none_named_from log name 0 w.streams all.shown none
 
--- If the search for a name finds the index `i`, there is a stream at this index.
 at_index : (n i : ℕ) (vs : List StreamValue) (name : List ℕ) → position_from (same_name name) n (names_of vs)
     ≡ Some (n + i)
     → (x : StreamValue) × (slice_get vs i ≡ Some x)
@@ -226,27 +210,24 @@ at_index n zero (v ∷ vs) name is = (v, refl)
 at_index n (suc i) (v ∷ vs) name is =
     at_index (n + 1) i vs name (later_fails (same_name name) n i v.name (names_of vs) is).1
 
--- A live stream in the journal has the name `name` exactly if a stream of the service has it.
 pub some_named : (w : ServiceValue) (log : Journal) (name : List ℕ) → ShowsAll w log
     → is_some (stream_named log name) ≡ is_some (index_by_name w.streams name)
-some_named w log name all = by (index_by_name w.streams name) refl
+some_named w log name all = cases (index_by_name w.streams name) refl
   where
-    by : (o : Option ℕ) → index_by_name w.streams name ≡ o
+    cases : (o : Option ℕ) → index_by_name w.streams name ≡ o
         → is_some (stream_named log name) ≡ is_some (index_by_name w.streams name)
-    by None e = ap is_some (none_named w log name all e) ∙ ap is_some (sym e)
-    by (Some i) e =
+    cases None e = ap is_some (none_named w log name all e) ∙ ap is_some (sym e)
+    cases (Some i) e =
         let x = at_index 0 i w.streams name (e ∙ ap Some (from_zero i)) in
         ap is_some (named_at w log name i x.0 all e x.1) ∙ ap is_some (sym e)
 
 -- ---- The stream with a number
 
--- The stream at the index that a search for the number `s` finds has this number. The search counts from `n`.
 pub number_at : (n i s : ℕ) (vs : List StreamValue) (x : StreamValue)
     → position_from (λ m. m == s) n (numbers_of vs) ≡ Some (n + i) → slice_get vs i ≡ Some x
     → s ≡ x.no
 number_at n i s vs x is here = sym (eqb-true x.no s (found_passes (λ v. v.no) (λ m. m == s) n i vs x is here))
 
--- If the search for the number `s` finds no index, `s` isn't among the numbers.
 pub not_among : (n s : ℕ) (ns : List ℕ) → position_from (λ m. m == s) n ns ≡ None → is_among ns s ≡ false
 not_among n s [] none = refl
 not_among n s (m ∷ ns) none =
@@ -258,23 +239,20 @@ not_among n s (m ∷ ns) none =
 beside : (log : Journal) (s : ℕ) (vs : List StreamValue) → AreShown log vs
     → open_in log (filter (λ t. not (t == s)) (numbers_of vs)) ≡ open_beside vs s
 beside log s [] shown = refl
-beside log s (v ∷ vs) shown = by (v.no == s) (beside log s vs shown.1)
+beside log s (v ∷ vs) shown = cases (v.no == s) (beside log s vs shown.1)
   where
-    by : (b : Bool) → open_in log (filter (λ t. not (t == s)) (numbers_of vs)) ≡ open_beside vs s
+    cases : (b : Bool) → open_in log (filter (λ t. not (t == s)) (numbers_of vs)) ≡ open_beside vs s
         → open_in log (cond (not b) (v.no ∷ filter (λ t. not (t == s)) (numbers_of vs))
         (filter (λ t. not (t == s)) (numbers_of vs)))
         ≡ (if b then 0 else length (filter is_open v.tree)) + open_beside vs s
-    by true rest = omega arith
-    by false rest = omega (arith, ap (λ xs. length (filter is_open xs)) shown.0.stored.shards_are, rest)
+    cases true rest = omega arith
+    cases false rest = omega (arith, ap (λ xs. length (filter is_open xs)) shown.0.stored.shards_are, rest)
 
--- The streams other than `s` have as many open shards in the journal as in the service.
 pub beside_is : (w : ServiceValue) (log : Journal) (s : ℕ) → ShowsAll w log
     → open_elsewhere log s ≡ open_beside w.streams s
 beside_is w log s all = ap (λ ns. open_in log (filter (λ t. not (t == s)) ns)) (live_are w log all)
     ∙ beside log s w.streams all.shown
 
--- If the numbers of all streams are above `s`, the streams other than `s` are all streams, and so they have all open
--- shards.
 all_beside : (s : ℕ) (vs : List StreamValue) → IsRising s (numbers_of vs) → open_beside vs s ≡ open_total vs
 all_beside s [] rising = refl
 all_beside s (v ∷ vs) rising =
@@ -282,15 +260,13 @@ all_beside s (v ∷ vs) rising =
     not_chosen (v.no == s) 0 _ (is_other v.no s (λ e. absurd (omega (arith, rising.0, e)))) in
     omega (arith, own, all_beside s vs (rising_from s v.no (numbers_of vs) (omega (arith, rising.0)) rising.1))
 
--- Let the numbers of the streams rise. Then the open shards of all streams are as many as those of the stream `x` and
--- those of the other streams together.
 pub own_and_beside : (i low : ℕ) (vs : List StreamValue) (x : StreamValue) → IsRising low (numbers_of vs)
     → slice_get vs i ≡ Some x
     → open_total vs ≡ open_beside vs x.no + length (filter is_open x.tree)
 own_and_beside i low [] x rising here = absurd (none-some x here)
 own_and_beside zero low (v ∷ vs) x rising here =
     subst (λ (u : StreamValue). open_total (v ∷ vs) ≡ open_beside (v ∷ vs) u.no + length (filter is_open u.tree))
-    (same_some v x here) own
+    (same_Some v x here) own
   where
     own : open_total (v ∷ vs) ≡ open_beside (v ∷ vs) v.no + length (filter is_open v.tree)
     own =
@@ -304,7 +280,6 @@ own_and_beside (suc i) low (v ∷ vs) x rising here =
 
 -- ---- The stream found by a name has this name
 
--- The stream at the index that the search for the name `name` finds has this name.
 pub has_name : (name : List ℕ) (i : ℕ) (vs : List StreamValue) (x : StreamValue) → index_by_name vs name ≡ Some i
     → slice_get vs i ≡ Some x → name ≡ x.name
 has_name name i vs x is here =

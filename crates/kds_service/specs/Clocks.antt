@@ -1,13 +1,11 @@
--- Defines the streams of a service after its clock advances, after it retreats to the earlier clock, and after a
--- settling, which removes trimmed records.
+-- The streams of a service after an advance of the clock, a retreat and a settling.
 use Rattle.std.specs.Prelude.{ℕ, zero, suc, nat_lt, if◌then◌else◌, List, [], ◌∷◌, length, map}
 use Rattle.kds_base.specs.Circle.{next_of}
 use Rattle.kds_stream.specs.Value.{StreamValue, cut_at, later_cut, settled}
 use Rattle.kds_service.specs.Shown.{AreAt, ServiceValue}
 
--- The stream `v` after its clock advances to `c`. Its cut (the trim horizon) becomes the later of its old cut and the
--- cut that its retention gives at `c`. It remembers its old clock and its old cut.
-abbrev pub advanced : ℕ → StreamValue → StreamValue
+-- The stream after its clock advances to `c`: the cut never falls, and the old clock and cut are remembered.
+abbrev pub advanced : (c : ℕ) (v : StreamValue) → StreamValue
 advanced c v = record v {
   clock = c;
   cut = later_cut v.cut (cut_at c v.hours);
@@ -15,38 +13,34 @@ advanced c v = record v {
   cut_before = v.cut;
 }
 
--- The stream `v` with the clock and the cut that it remembers, in place of its present ones.
-abbrev pub retreated : StreamValue → StreamValue
+-- The stream back at the clock and the cut that it remembers.
+abbrev pub retreated : (v : StreamValue) → StreamValue
 retreated v = record v { clock = v.clock_before; cut = v.cut_before }
 
--- The streams of a list after the stream at the index `n` is settled: one of its logs loses its trimmed records
--- (`settled`). If the list has no index `n`, nothing changes.
-abbrev pub settled_in : ℕ → List StreamValue → List StreamValue
+-- The streams with the one at the index `n` settled; unchanged if there is no such index.
+abbrev pub settled_in : (n : ℕ) (vs : List StreamValue) → List StreamValue
 settled_in n [] = []
 settled_in zero (v ∷ vs) = settled v ∷ vs
 settled_in (suc n) (v ∷ vs) = v ∷ settled_in n vs
 
--- The service `w` with the clock that it remembers, in place of its present one. Each of its streams goes back to the
--- clock and the cut that the stream remembers (`retreated`).
-abbrev pub retreated_service : ServiceValue → ServiceValue
+-- The service, and each of its streams, back at the clock that it remembers.
+abbrev pub retreated_service : (w : ServiceValue) → ServiceValue
 retreated_service w = record w { clock = w.clock_before; streams = map retreated w.streams }
 
--- The clock that each stream of the service `w` remembers is the one that `w` remembers. This is so after an advance,
--- until a stream is changed or settled.
-abbrev pub CanRetreat : ServiceValue → Type 0
+-- Each stream remembers the service's clock before the last advance.
+abbrev pub CanRetreat : (w : ServiceValue) → Type 0
 CanRetreat w = AreAt w.clock_before (map retreated w.streams)
 
--- The index that comes next in a rotation over the indexes below `count`: `n` if it is below `count`, and otherwise 0.
-abbrev pub in_rotation : ℕ → ℕ → ℕ
+-- The index that comes next in a rotation; 0 if `n` is no index.
+abbrev pub in_rotation : (count n : ℕ) → ℕ
 in_rotation count n = if nat_lt n count then n else 0
 
--- The index after `in_rotation count n`, in a rotation over the indexes below `count`.
-abbrev pub next_in_rotation : ℕ → ℕ → ℕ
+-- The index after the next one in a rotation.
+abbrev pub next_in_rotation : (count n : ℕ) → ℕ
 next_in_rotation count n = next_of count (in_rotation count n)
 
--- The service `w` after one settling. The stream at the next index of the rotation (`in_rotation`) is settled, and the
--- rotation moves on by one index. The clock that the service remembers becomes its present clock.
-abbrev pub settled_next : ServiceValue → ServiceValue
+-- The service after its next stream was settled; a retreat then leads to this clock.
+abbrev pub settled_next : (w : ServiceValue) → ServiceValue
 settled_next w =
     let count = length w.streams in
     record w {

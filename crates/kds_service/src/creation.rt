@@ -26,9 +26,9 @@ pub fn create(
 ) -> Result<Answer, Memory>
     requires named { AreNamedAt clock streams.old.entries }
     requires count { IsShardCount shards }
-    ensures leads { (before : ℕ)
-        → IfOk result (Leads (service clock before made_count.old (values streams.old))
-        (service clock before made_count.new (values streams.new)) (command.Create name shards)) }
+    ensures leads { (old : ℕ)
+        → IfOk result (Leads (service clock old made_count.old (values streams.old))
+        (service clock old made_count.new (values streams.new)) (command.Create name shards)) }
     ensures named { AreNamedAt clock streams.new.entries }
     ensures kept { OnErr result ((values streams.new ≡ values streams.old) × (made_count.new ≡ made_count.old)) }
 {

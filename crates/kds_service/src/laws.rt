@@ -18,10 +18,10 @@ use kds_stream::other_lines;
 pub fn others()
     ensures changed { (c b n i : ℕ) (vs : List StreamValue) (x v : StreamValue) (log : Journal) (lines : List Line)
         → ShowsAll (service c b n vs) log → StaysShown c b n vs log i x v lines }
-    ensures added { (c b n by count : ℕ) (name : List ℕ) (vs : List StreamValue) (v : StreamValue) (log : Journal)
-        → ShowsAll (service c b n vs) log → StaysShownWith c b n vs log v by name count }
-    ensures removed { (c b n by i : ℕ) (vs : List StreamValue) (x : StreamValue) (log : Journal)
-        → ShowsAll (service c b n vs) log → StaysShownWithout c b n vs log i x by }
+    ensures added { (c b n actor count : ℕ) (name : List ℕ) (vs : List StreamValue) (v : StreamValue) (log : Journal)
+        → ShowsAll (service c b n vs) log → StaysShownWith c b n vs log v actor name count }
+    ensures removed { (c b n actor i : ℕ) (vs : List StreamValue) (x : StreamValue) (log : Journal)
+        → ShowsAll (service c b n vs) log → StaysShownWithout c b n vs log i x actor }
     ensures empty { (c b : ℕ) → ShowsAll (service c b 0 []) [] }
 {
     other_lines();

@@ -29,9 +29,9 @@ pub fn serve(
     requires named { AreNamedAt clock streams.old.entries }
     requires lawful { IsLawfulCommand what }
     requires own { is_service what ≡ true }
-    ensures leads { (before : ℕ)
-        → IfOk result (Leads (service clock before made_count.old (values streams.old))
-        (service clock before made_count.new (values streams.new)) what) }
+    ensures leads { (old : ℕ)
+        → IfOk result (Leads (service clock old made_count.old (values streams.old))
+        (service clock old made_count.new (values streams.new)) what) }
     ensures named { AreNamedAt clock streams.new.entries }
     ensures kept { OnErr result ((values streams.new ≡ values streams.old) × (made_count.new ≡ made_count.old)) }
 {

@@ -1,8 +1,9 @@
--- The bytes of a connection fall into messages in one way at most, and further bytes change no message that was read.
+-- Bytes fall into messages in one way, and further bytes change no message that was read.
 use Rattle.std.proofs.Common.{◌≡◌, ◌≢◌, ℕ, ◌+◌, ◌-◌, ◌<◌, ◌≤◌, Option, Some, None, List, [], ◌∷◌, ◌++◌, length, take}
 use Rattle.std.proofs.Common.{drop, sym, ap, ◌∙◌, subst, arith, refl, inl, inr, Bool, true, false}
 use Rattle.std.specs.Prelude.{MatchBool, ◌==◌, ◌||◌, nat_le}
 use Rattle.std.proofs.lemmas.Bool.Decides.{nat_tests}
+use Rattle.std.proofs.lemmas.Bool.{MatchBool-at_false}
 use Rattle.std.proofs.lemmas.List.{append_assoc, append-nil, length-append, take-append-le, drop-append-le, length-drop}
 use Rattle.kds_base.proofs.Facts.{le_so, above_so}
 use Rattle.kds_head.specs.declared.found.Head.{Head}
@@ -17,13 +18,11 @@ use Rattle.kds_session.specs.declared.limits.TheConstants.{UNREAD_BYTES}
 use Rattle.kds_session.specs.Standing.{GoesOn, going, end_in}
 use Rattle.kds_session.specs.Steps.{IsKept}
 
--- If bytes begin with a whole head or with a head that is refused, they still do so when more bytes follow.
+-- A whole or refused head stays when more bytes follow.
 abbrev pub HeadStays : Type 0
 HeadStays = (bytes more : List ℕ) (found : Found) → IsFound bytes found → found ≢ Need → IsFound (bytes ++ more) found
 
--- The laws of heads on which the lemmas of this file rest. Bytes have at most one finding: a whole head, a refused
--- head, or that more bytes are needed. A head that was found stays when more bytes follow, and a finding is within the
--- limits. If there are no bytes, more are needed.
+-- The laws of heads: one finding, which stays, is within the limits, and needs more without bytes.
 pub record HeadLaws : Type 0 where
   pub one : (bytes : List ℕ) (found other : Found) → IsFound bytes found → IsFound bytes other → found ≡ other
   pub stays : HeadStays
@@ -47,7 +46,6 @@ need_whole h e = cc
 refused_whole : (s : ℕ) (h : Head) → Refused s ≡ Whole h → ⊥
 refused_whole s h e = cc
 
--- Bytes begin with one whole message at most.
 pub same_message : HeadLaws → (bytes : List ℕ) (m n : Message) → Begins bytes m → Begins bytes n → m ≡ n
 same_message laws bytes m n a b =
     a.1 ∙ ap (λ (k : Head). message_at bytes k) (same_head _ _ (laws.one bytes _ _ a.0.found b.0.found)) ∙ sym b.1
@@ -55,7 +53,6 @@ same_message laws bytes m n a b =
 some_size : HeadLaws → (bytes : List ℕ) (m : Message) → Begins bytes m → 0 < size m.head
 some_size laws bytes m b = let within = laws.limits bytes (Whole m.head) b.0.found in omega (arith, within.some)
 
--- Bytes that don't begin with a whole message yet (`IsUnfinished`) begin with no message.
 unfinished_begins : HeadLaws → (bytes : List ℕ) (m : Message) → IsUnfinished bytes → Begins bytes m → ⊥
 unfinished_begins laws bytes m (inl need) b = need_whole m.head (laws.one bytes _ _ need b.0.found)
 unfinished_begins laws bytes m (inr short) b =
@@ -63,8 +60,6 @@ unfinished_begins laws bytes m (inr short) b =
     let s : size short.0 ≡ size m.head = ap size h in
     absurd (omega (arith, s, short.1.short, b.0.whole))
 
--- Bytes that can come after the last whole message of a connection (`Ends`: none, a beginning of a message, or refused
--- bytes) don't begin with a whole message.
 pub ends_begins : HeadLaws → (bytes : List ℕ) (e : Ending) (m : Message) → Ends bytes e → Begins bytes m → ⊥
 ends_begins laws bytes boundary m e b = let some = some_size laws bytes m b in
     absurd (omega (arith, some, b.0.whole, ap length e))
@@ -98,22 +93,20 @@ one_ending laws bytes closed f a b = absurd a
 cons_same : (m n : Message) (ms ns : List Message) → m ≡ n → ms ≡ ns → m ∷ ms ≡ n ∷ ns
 cons_same m n ms ns e f = cc
 
--- If bytes that come after `before` messages of a connection fall into messages with an ending (`Falls`), they do so in
--- one way only.
-pub one_way : HeadLaws → (before : ℕ) (bytes : List ℕ) (ms ns : List Message) (e f : Ending) → Falls before bytes ms e
-    → Falls before bytes ns f → (ms ≡ ns) × (e ≡ f)
-one_way laws before bytes [] [] e f a b = (refl, one_ending laws bytes e f a b)
-one_way laws before bytes [] (n ∷ ns) e f a b = absurd (ends_begins laws bytes e n a b.0)
-one_way laws before bytes (m ∷ ms) [] e f a b = absurd (ends_begins laws bytes f m b a.0)
-one_way laws before bytes (m ∷ ms) (n ∷ ns) e f a b =
+pub one_way : HeadLaws → (old : ℕ) (bytes : List ℕ) (ms ns : List Message) (e f : Ending) → Falls old bytes ms e
+    → Falls old bytes ns f → (ms ≡ ns) × (e ≡ f)
+one_way laws old bytes [] [] e f a b = (refl, one_ending laws bytes e f a b)
+one_way laws old bytes [] (n ∷ ns) e f a b = absurd (ends_begins laws bytes e n a b.0)
+one_way laws old bytes (m ∷ ms) [] e f a b = absurd (ends_begins laws bytes f m b a.0)
+one_way laws old bytes (m ∷ ms) (n ∷ ns) e f a b =
     let same = same_message laws bytes m n a.0 b.0 in
-    let after : MatchBool (closes_after (before + 1) m.head) ((ns ≡ [])
-    × (f ≡ closed)) (Falls (before + 1) (rest_of bytes m) ns f)
+    let after : MatchBool (closes_after (old + 1) m.head) ((ns ≡ [])
+    × (f ≡ closed)) (Falls (old + 1) (rest_of bytes m) ns f)
     = subst (λ (k : Message).
-    MatchBool (closes_after (before + 1) k.head) ((ns ≡ []) × (f ≡ closed)) (Falls (before + 1) (rest_of bytes k) ns f))
+    MatchBool (closes_after (old + 1) k.head) ((ns ≡ []) × (f ≡ closed)) (Falls (old + 1) (rest_of bytes k) ns f))
     (sym same) b.1 in
-    let later = by_close (closes_after (before + 1) m.head) ms ns e f (Falls (before + 1) (rest_of bytes m) ms e)
-    (Falls (before + 1) (rest_of bytes m) ns f) (one_way laws (before + 1) (rest_of bytes m) ms ns e f) a.1 after in
+    let later = by_close (closes_after (old + 1) m.head) ms ns e f (Falls (old + 1) (rest_of bytes m) ms e)
+    (Falls (old + 1) (rest_of bytes m) ns f) (one_way laws (old + 1) (rest_of bytes m) ms ns e f) a.1 after in
     (cons_same m n ms ns same later.0, later.1)
   where
     by_close : (close : Bool) (ms ns : List Message) (e f : Ending) (P Q : Type 0) → (P → Q → (ms ≡ ns) × (e ≡ f))
@@ -124,7 +117,6 @@ one_way laws before bytes (m ∷ ms) (n ∷ ns) e f a b =
 
 -- ---- More bytes follow
 
--- If bytes begin with the head `head` and its whole body, they begin with the message of this head and body.
 pub begins_at : (bytes : List ℕ) (head : Head) → IsWhole bytes head → Begins bytes (message_at bytes head)
 begins_at bytes head whole = (whole, refl)
 
@@ -136,7 +128,6 @@ body_more bytes more head whole =
     let room : head.body ≤ length (drop head.length bytes) = omega (arith, whole, length-drop head.length bytes) in
     sym (ap (λ z. take head.body z) first ∙ take-append-le head.body (drop head.length bytes) more room)
 
--- Bytes that begin with the message `m` still do so when more bytes follow.
 pub begins_more : HeadLaws → (bytes more : List ℕ) (m : Message) → Begins bytes m → Begins (bytes ++ more) m
 begins_more laws bytes more m b = (
   record {
@@ -150,8 +141,7 @@ begins_more laws bytes more m b = (
 rest_more : (bytes more : List ℕ) (m : Message) → Begins bytes m → rest_of (bytes ++ more) m ≡ rest_of bytes m ++ more
 rest_more bytes more m b = drop-append-le (size m.head) bytes more b.0.whole
 
--- `done` of REQUESTS requests were read, and `left` are left, at least one. The next request is the last one that is
--- allowed exactly if `left` is at most one.
+-- The next request is the last one allowed exactly if at most one is left.
 pub last_is : (done left : ℕ) → done + left ≡ REQUESTS → 0 < left → (done + 1 == REQUESTS) ≡ nat_le left 1
 last_is done left e some = grind (arith, nat_tests)
 
@@ -161,13 +151,8 @@ match_false b P Q e q = rw e q
 match_true : (b : Bool) (P Q : Type 0) → b ≡ true → P → MatchBool b P Q
 match_true b P Q e p = rw e p
 
-of_false : (b : Bool) (P Q : Type 0) → b ≡ false → MatchBool b P Q → Q
-of_false true P Q e q = absurd (cc e)
-of_false false P Q e q = q
-
 -- ---- A connection that goes on, and how it ends
 
--- A connection that goes on (`GoesOn`) still goes on after further bytes are fed.
 pub goes_fed : (fed : List ℕ) (done : List Message) (left : ℕ) (unread bytes : List ℕ) → GoesOn fed done left unread
     → GoesOn (fed ++ bytes) done left (unread ++ bytes)
 goes_fed fed done left unread bytes g = record {
@@ -187,8 +172,6 @@ not_last : (n left : ℕ) (close : Bool) → n + left ≡ REQUESTS → 0 < left 
 not_last n left true e some h = absurd (cc)
 not_last n left false e some h = grind (arith, nat_tests)
 
--- The unread bytes begin with the message `m`, which doesn't close the connection. If the unread bytes and further
--- bytes fall into messages, the first of these messages is `m`, and the bytes after `m` fall into the other messages.
 past : HeadLaws → (n : ℕ) (unread more : List ℕ) (m : Message) (ms : List Message) (e : Ending) → Begins unread m
     → closes_after (n + 1) m.head ≡ false
     → Falls n (unread ++ more) ms e → (rest : List Message) × (ms ≡ m ∷ rest)
@@ -203,11 +186,9 @@ past laws n unread more m (k ∷ ms) e b close f =
       ms,
       cons_same k m ms ms same refl,
       subst (λ (z : List ℕ). Falls (n + 1) z ms e) (rest_more unread more m b)
-          (of_false (closes_after (n + 1) m.head) _ _ close after),
+          (MatchBool-at_false _ _ close after),
     )
 
--- A connection that goes on (`GoesOn`) still goes on after the message `m` is read, if `m` doesn't close the
--- connection. One request fewer is then left.
 pub goes_past : HeadLaws → (fed : List ℕ) (done : List Message) (left : ℕ) (unread : List ℕ) (m : Message)
     → GoesOn fed done left unread → Begins unread m
     → closes_after (length done + 1) m.head ≡ false → GoesOn fed (done ++ m ∷ []) (left - 1) (rest_of unread m)
@@ -235,8 +216,6 @@ goes_past laws fed done left unread m g b more_come =
           );
     }
 
--- After a message that closes the connection was read, the bytes that were fed, with any bytes after them, fall into
--- the messages up to this one. Their ending is `closed`.
 pub goes_last : HeadLaws → (fed : List ℕ) (done : List Message) (left : ℕ) (unread : List ℕ) (m : Message)
     → GoesOn fed done left unread → Begins unread m
     → closes_after (length done + 1) m.head ≡ true → (more : List ℕ) → Falls 0 (fed ++ more) (done ++ m ∷ []) closed
@@ -246,8 +225,6 @@ goes_last laws fed done left unread m g b close more =
       match_true (closes_after (length done + 1) m.head) _ _ close (refl, refl),
     )
 
--- If the unread bytes begin with a head that is refused, the bytes that were fed, with any bytes after them, fall into
--- the messages `done` and end with this refusal.
 pub goes_refused : HeadStays → (fed : List ℕ) (done : List Message) (left : ℕ) (unread : List ℕ) (s : ℕ)
     → GoesOn fed done left unread → IsFound unread (Refused s)
     → (more : List ℕ) → Falls 0 (fed ++ more) done (refused s)
@@ -262,8 +239,7 @@ at_end fed done left unread e g f =
     (subst (λ (z : List Message). Falls 0 (fed ++ []) z e) (append-nil done)
     (g.onward [] [] e (subst (λ (z : List ℕ). Ends z e) (sym (append-nil unread)) f)))
 
--- If no whole message is unread, the bytes that were fed fall into the messages `done`. The fed bytes end between two
--- messages if nothing is unread, and otherwise inside a message.
+-- Without a whole unread message, the bytes end between two messages or inside one.
 pub goes_ending : (fed : List ℕ) (done : List Message) (left : ℕ) (unread : List ℕ) → GoesOn fed done left unread
     → IsUnfinished unread → Falls 0 fed done (end_in going unread)
 goes_ending fed done left [] g u = at_end fed done left [] boundary g refl
@@ -271,14 +247,10 @@ goes_ending fed done left (x ∷ xs) g u = at_end fed done left (x ∷ xs) insid
 
 -- ---- Whether the body is whole
 
--- If bytes begin with the head `head`, and there are at least as many bytes as the message has, they begin with the
--- whole message.
 pub whole_by : (bytes : List ℕ) (head : Head) → IsFound bytes (Whole head) → nat_le (size head) (length bytes) ≡ true
     → IsWhole bytes head
 whole_by bytes head f e = record { found = f; whole = le_so _ _ e }
 
--- If bytes begin with the head `head`, and there are fewer bytes than the message has, they end before the message's
--- body does.
 pub short_by : (bytes : List ℕ) (head : Head) → IsFound bytes (Whole head) → nat_le (size head) (length bytes) ≡ false
     → IsShort bytes head
 short_by bytes head f e = record { found = f; short = above_so _ _ e }
@@ -289,7 +261,6 @@ few_bytes : (n size length body : ℕ) → n < size → size ≡ length + body �
     → n < HEAD_BYTES + BODY_BYTES
 few_bytes n size length body h e a b = omega arith
 
--- The unread bytes of an unfinished message are fewer than the greatest head and the greatest body together.
 pub unfinished_short : ((bytes : List ℕ) (found : Found) → IsFound bytes found → IsWithinLimits bytes found)
     → (bytes : List ℕ) → IsUnfinished bytes → length bytes < HEAD_BYTES + BODY_BYTES
 unfinished_short limits bytes (inl need) = let few = limits bytes Need need in omega arith
@@ -299,16 +270,12 @@ unfinished_short limits bytes (inr short) =
 
 -- ---- A head that is kept
 
--- If bytes begin with the head that is kept, they still do so when more bytes follow (`IsKept`). If no head is kept,
--- nothing is claimed.
 pub kept_more : HeadStays → (bytes more new : List ℕ) (kept : Option Head) → new ≡ bytes ++ more → IsKept bytes kept
     → IsKept new kept
 kept_more stays bytes more new None e k = tt
 kept_more stays bytes more new (Some h) e k =
     subst (λ (z : List ℕ). IsFound z (Whole h)) (sym e) (stays bytes more (Whole h) k (λ e. need_whole h (sym e)))
 
--- If at most UNREAD_BYTES bytes are unread, and no more bytes are fed than the rest of this limit, then at most
--- UNREAD_BYTES bytes are unread afterwards.
 pub fed_fits : (bytes more new : List ℕ) → new ≡ bytes ++ more → length more ≤ UNREAD_BYTES - length bytes
     → length bytes ≤ UNREAD_BYTES → length new ≤ UNREAD_BYTES
 fed_fits bytes more new e room few = let n : length new ≡ length bytes + length more =

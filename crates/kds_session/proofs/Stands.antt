@@ -1,6 +1,4 @@
--- What a session stands for after bytes were fed, a message was read or an answer was told: the traffic from before,
--- with the bytes, the command or the answer added. A reading (`Progress`) is what one call of `next` has consumed and
--- answered so far. The session adopts the reading at the end of the call.
+-- What a session stands for after bytes were fed, a message was read or an answer was told.
 use Rattle.std.proofs.Common.{◌≡◌, ◌≢◌, ℕ, ◌+◌, ◌-◌, ◌<◌, ◌≤◌, List, [], ◌∷◌, ◌++◌, length, drop, sym, ap, ◌∙◌, subst}
 use Rattle.std.proofs.Common.{arith, refl, Bool, true, false, Ok, Err, Result, Option, Some, None, drop-drop, inl, inr}
 use Rattle.std.specs.Prelude.{◌||◌, nat_le}
@@ -38,9 +36,7 @@ use Rattle.kds_session.proofs.Responses.{commands-push, responses-push, adds}
 
 -- ---- A live session that waits for no answer
 
--- The session `s`, through which the traffic `past` has passed, goes on and waits for no answer. The messages `done`
--- were read. The commands given are those of `done`, and each has its answer. Only the responses to `done` were
--- written.
+-- The session goes on and waits for nothing; all commands of `done` have answers, and only their responses came.
 pub record Runs (s : SessionState) (past : Traffic) : Type 0 where
   pub done : List Message
   pub given_is : past.given ≡ commands done
@@ -69,8 +65,6 @@ leads_fed going fed done left unread bytes g = goes_fed fed done left unread byt
 leads_fed (over ending) fed done left unread bytes g =
     λ more. subst (λ (z : List ℕ). Falls 0 z done ending) (sym (append_assoc fed bytes more)) (g (bytes ++ more))
 
--- If the session `s` stands for a traffic, the session with `bytes` added to the unread bytes stands for the traffic
--- with `bytes` fed in addition.
 pub feeds : (s : SessionState) (past : Traffic) (bytes : List ℕ) → StandsFor s past
     → (new : SessionState) → new ≡ record s { unread = s.unread ++ bytes } → StandsFor new (fed_more bytes past)
 feeds s past bytes st new e = subst (λ (n : SessionState). StandsFor n (fed_more bytes past)) (sym e) (record {
@@ -84,9 +78,7 @@ feeds s past bytes st new e = subst (λ (n : SessionState). StandsFor n (fed_mor
 
 -- ---- The connection is refused
 
--- The unread bytes of the live session `s` begin with a head that is refused. `new` is `s` with the refusal's response
--- in its output and with the connection refused. Then `new` stands for the traffic that `s` stands for, and is quiet
--- (`IsQuiet`).
+-- A refused head at the front makes a quiet session of the same traffic, with the refusal in its output.
 pub refused_now : HeadStays → (s : SessionState) (status : ℕ) (past : Traffic) → StandsFor s past → IsFree s
     → IsFound s.unread (RefusedHead status) → (new : SessionState)
     → new ≡ record s { output = s.output ++ response_text status [] false true; standing = Refused status }
@@ -108,15 +100,11 @@ refused_now stays s status past st free found new e =
 
 -- ---- One more message is read
 
--- If at least one of REQUESTS requests is left, the code's test whether the connection closes after the next message
--- gives what `closes_after` gives.
 close_is : (close : Bool) (done left : ℕ) (head : Head) → done + left ≡ REQUESTS → 0 < left
     → close ≡ (head.close || nat_le left 1) → closes_after (done + 1) head ≡ close
 close_is close done left head e some c = ap (λ b. head.close || b) (last_is done left e some) ∙ sym c
 
--- The unread bytes of a session that goes on begin with a message with the head `head`, and `close` says whether the
--- connection closes after this message. The commands given and the bytes written so far, with what this message adds,
--- are the commands and the responses of the messages up to this one.
+-- The next message with this head adds its command and its response to the earlier messages'.
 record OneMore (s : SessionState) (past : Traffic) (head : Head) (close : Bool) : Type 0 where
   pub was : Runs s past
   pub close_is : closes_after (length was.done + 1) head ≡ close
@@ -161,9 +149,7 @@ fault_commands : (s : SessionState) (past : Traffic) (head : Head) (close : Bool
 fault_commands s past head close f o asks =
     sym (append-nil past.given) ∙ ap (λ r. past.given ++ command_of r) (sym asks) ∙ o.commands_are
 
--- The first unread message of the live session `s` has a fault and doesn't close the connection. `new` is `s` after it
--- has read this message, with the fault's response in its output. Then `new` stands for the traffic that `s` stands
--- for.
+-- A faulty message is read and answered, and the traffic stays.
 pub fault_goes : HeadLaws → (s : SessionState) (past : Traffic) (head : Head) (close : Bool) (f : Fault)
     → StandsFor s past → IsFree s
     → close ≡ (head.close || nat_le s.left 1) → close ≡ false → IsWhole s.unread head
@@ -193,9 +179,7 @@ fault_goes laws s past head close f st free c goes_on whole asks new e =
           ∙ ap (λ z. responses 0 done past.told ++ stage_text z) (sym stage);
     })
 
--- The first unread message of the live session `s` has a fault and closes the connection. `new` is `s` after it has
--- read this message, with the fault's response in its output and with the connection closed. Then `new` stands for the
--- traffic that `s` stands for, and is quiet (`IsQuiet`).
+-- A faulty message that closes the connection is read and answered, and the session is quiet.
 pub fault_closes : HeadLaws → (s : SessionState) (past : Traffic) (head : Head) (close : Bool) (f : Fault)
     → StandsFor s past → IsFree s
     → close ≡ (head.close || nat_le s.left 1) → close ≡ true → IsWhole s.unread head
@@ -228,13 +212,13 @@ fault_closes laws s past head close f st free c ends_now whole asks new e =
 
 -- ---- A command is given
 
-command_parts : (s : SessionState) (past : Traffic) (head : Head) (close : Bool) (what : Command)
+command_parts : (s : SessionState) (past : Traffic) (head : Head) (close : Bool) (command : Command)
     → (o : OneMore s past head close)
-    → asked_by (message_at s.unread head) ≡ Ok what
-    → (past.given ++ what ∷ [] ≡ commands (o.was.done ++ message_at s.unread head ∷ []))
+    → asked_by (message_at s.unread head) ≡ Ok command
+    → (past.given ++ command ∷ [] ≡ commands (o.was.done ++ message_at s.unread head ∷ []))
     × (past.sent ++ s.output ≡ responses 0 (o.was.done ++ message_at s.unread head ∷ []) past.told)
     × IsAwaited close (o.was.done ++ message_at s.unread head ∷ []) past.told
-command_parts s past head close what o asks = (
+command_parts s past head close command o asks = (
   ap (λ r. past.given ++ command_of r) (sym asks) ∙ o.commands_are,
   sym (append-nil (past.sent ++ s.output)) ∙ ap (λ r. (past.sent ++ s.output) ++ adds r close []) (sym asks)
       ∙ sym (o.adds_are [])
@@ -242,7 +226,7 @@ command_parts s past head close what o asks = (
   record {
     before = o.was.done;
     last = message_at s.unread head;
-    what = what;
+    what = command;
     done_is = refl;
     asks = asks;
     told_before = o.was.told_all;
@@ -250,39 +234,36 @@ command_parts s past head close what o asks = (
   },
 )
 
--- A session that gave a command waits for an answer.
 pub waits_for : (close : Bool) → waiting_for close ≢ Nothing
 waits_for true e = cc
 waits_for false e = cc
 
--- The first unread message of the live session `s` asks for the command `what`. `new` is `s` after it has read this
--- message, and waits for the answer. Then `new` stands for the traffic that `s` stands for, with `what` given in
--- addition.
-pub command_given : HeadLaws → (s : SessionState) (past : Traffic) (head : Head) (close : Bool) (what : Command)
+-- A message that asks for a command is read, and the command is given.
+pub command_given : HeadLaws → (s : SessionState) (past : Traffic) (head : Head) (close : Bool) (command : Command)
     → StandsFor s past → IsFree s
-    → close ≡ (head.close || nat_le s.left 1) → IsWhole s.unread head → asked_by (message_at s.unread head) ≡ Ok what
+    → close ≡ (head.close || nat_le s.left 1) → IsWhole s.unread head → asked_by (message_at s.unread head) ≡ Ok command
     → (new : SessionState) → new ≡ record s {
       unread = rest_of s.unread (message_at s.unread head);
       left = s.left - 1;
       waiting = waiting_for close;
     }
-    → StandsFor new (given_one what past) × (new.waiting ≢ Nothing)
-command_given laws s past head close what st free c whole asks new e =
+    → StandsFor new (given_one command past) × (new.waiting ≢ Nothing)
+command_given laws s past head close command st free c whole asks new e =
     let o = one_more s past head close st free c in
-    let p = command_parts s past head close what o asks in
-    subst (λ (n : SessionState). StandsFor n (given_one what past) × (n.waiting ≢ Nothing)) (sym e)
+    let p = command_parts s past head close command o asks in
+    subst (λ (n : SessionState). StandsFor n (given_one command past) × (n.waiting ≢ Nothing)) (sym e)
     (by_close close o p o.close_is, waits_for close)
   where
     m : Message
     m = message_at s.unread head
 
     by_close : (b : Bool) (o : OneMore s past head close)
-        → (p : (past.given ++ what ∷ [] ≡ commands (o.was.done ++ m ∷ []))
+        → (p : (past.given ++ command ∷ [] ≡ commands (o.was.done ++ m ∷ []))
         × (past.sent ++ s.output ≡ responses 0 (o.was.done ++ m ∷ []) past.told)
         × IsAwaited b (o.was.done ++ m ∷ []) past.told)
         → closes_after (length o.was.done + 1) head ≡ b
         → StandsFor (record s { unread = rest_of s.unread m; left = s.left - 1; waiting = waiting_for b })
-        (given_one what past)
+        (given_one command past)
     by_close true o p b = record {
       done = o.was.done ++ m ∷ [];
       given_is = p.0;
@@ -310,8 +291,6 @@ command_given laws s past head close what st free c whole asks new e =
 
 -- ---- The session adopts a reading of its unread bytes
 
--- The reading `new` consumed `n` bytes more than the reading `r`. The session that `new` makes has `n` fewer unread
--- bytes than the session that `r` makes, and all other fields are those of `new`.
 pub past_state : (bytes : List ℕ) (r new : Progress) (n : ℕ) → new.read ≡ r.read + n
     → read_state bytes new ≡ record {
       unread = drop n (drop r.read bytes);
@@ -330,8 +309,6 @@ past_state bytes r new n e =
     } in
     y) (ap (λ k. drop k bytes) e ∙ sym (drop-drop n r.read bytes))
 
--- The reading `p` consumed one message of `n` bytes more than the reading `r`, and a command then waits. The session
--- that `p` makes is that of `r` with `n` fewer unread bytes and one request fewer allowed, and it waits for `v`.
 pub command_state : (bytes : List ℕ) (r p : Progress) (n : ℕ) (w v : Waiting)
     → p ≡ record r { read = r.read + n; left = r.left - 1 } → w ≡ v
     → read_state bytes (record p { waiting = w }) ≡ record (read_state bytes r) {
@@ -348,9 +325,6 @@ command_state bytes r p n w v e f =
       waiting = z;
     } in y) f
 
--- The reading `p` consumed one faulty request of `n` bytes more than the reading `r`. The session that `p` makes is
--- that of `r` with `n` fewer unread bytes, one request fewer allowed, and the fault's response `text` added to the
--- output.
 pub fault_state : (bytes : List ℕ) (r p : Progress) (n : ℕ) (t text : List ℕ)
     → p ≡ record r { responses = t; read = r.read + n; left = r.left - 1 } → t ≡ r.responses ++ text
     → read_state bytes p ≡ record (read_state bytes r) {
@@ -367,9 +341,6 @@ fault_state bytes r p n t text e f =
       output = z;
     } in y) f
 
--- The reading `p` consumed one faulty request of `n` bytes more than the reading `r`, and the connection closes after
--- it. The session that `p` makes is that of `r` with `n` fewer unread bytes, one request fewer allowed, and the fault's
--- response `text` added to the output. It is also closed.
 pub closed_state : (bytes : List ℕ) (r p : Progress) (n : ℕ) (t text : List ℕ)
     → p ≡ record r { responses = t; read = r.read + n; left = r.left - 1 } → t ≡ r.responses ++ text
     → read_state bytes (record p { standing = Closed })
@@ -383,8 +354,6 @@ closed_state bytes r p n t text e f =
     ap (λ (z : SessionState). let y : SessionState = record z { standing = Closed } in
     y) (fault_state bytes r p n t text e f)
 
--- The reading `p` found a refused head after the bytes that `r` consumed. The session that `p` makes is that of `r`
--- with the refusal's response added to the output, and is refused with `status`.
 pub refused_state : (bytes : List ℕ) (r p : Progress) (status : ℕ)
     → p ≡ record r { responses = r.responses ++ response_text status [] false true; standing = Refused status }
     → read_state bytes p ≡ record (read_state bytes r) {
@@ -393,8 +362,6 @@ pub refused_state : (bytes : List ℕ) (r p : Progress) (status : ℕ)
     }
 refused_state bytes r p status e = ap (λ (x : Progress). read_state bytes x) e
 
--- A reading that has consumed nothing yet makes a session that stands for the traffic of `s`, with the output of `s`
--- counted as sent.
 pub reading_begins : (s : SessionState) (past : Traffic) → StandsFor s past → IsFree s
     → (start : Progress) → start ≡ record {
       read = 0;
@@ -426,20 +393,18 @@ stands_then s r past st = record {
   written = sym (append_assoc past.sent s.output r.responses) ∙ st.written;
 }
 
--- The session that the reading `r` makes has only the output of `r`, and not that of `s`. If `IsNext` holds for this
--- session, with the output of `s` counted as sent, then `IsNext` holds for `new`, the session `s` after it has adopted
--- `r`.
 pub taken_over : (s : SessionState) (r : Progress) (o : Option Command) (past : Traffic)
     → IsNext o (read_state s.unread r) (sent_more s.output past)
     → (new : SessionState) → new ≡ with_progress s r → IsNext o new past
 taken_over s r None past n new e =
     subst (λ (x : SessionState). IsNext None x past) (sym e) (stands_then s r past n.0, n.1)
-taken_over s r (Some what) past n new e =
-    subst (λ (x : SessionState). IsNext (Some what) x past) (sym e) (stands_then s r (given_one what past) n.0, n.1)
+taken_over s r (Some command) past n new e =
+    subst (λ (x : SessionState). IsNext (Some command) x past) (sym e) (
+      stands_then s r (given_one command past) n.0,
+      n.1,
+    )
 
--- The reading `r` began as `start`, and `new` is the session `s` after it has adopted `r`. Assume that `IsNext` holds
--- for the session that `r` makes, for each traffic that the session of `start` stands for. Then `IsNext` holds for
--- `new`, for each traffic that `s` stands for.
+-- What one reading gives for `next`, it gives for the session that adopts it.
 pub next_by : (s v : SessionState) (bytes : List ℕ) (start r : Progress) (o : Option Command) → v ≡ s → bytes ≡ v.unread
     → start ≡ record { read = 0; left = v.left; responses = []; standing = Live; waiting = Nothing } → IsFree s
     → ((past : Traffic) → StandsFor (read_state bytes start) past → IsNext o (read_state bytes r) past)
@@ -462,36 +427,35 @@ next_by s v bytes start r o ev eb es free go new e past st =
 
 -- ---- An answer is told
 
--- The answer `a` to the one command that waits adds the response of `a` to the responses so far. Then each command has
--- its answer.
-pub awaited_text : (close : Bool) (done : List Message) (told : Answers) (a : Result Reply Refusal)
-    → IsAwaited close done told
-    → (responses 0 done (told ++ a ∷ []) ≡ responses 0 done told ++ answered (reply_of a) close)
-    × (length (told ++ a ∷ []) ≡ length (commands done))
-awaited_text close done told a w =
+pub awaited_text : (close : Bool) (done : List Message) (answers : Answers) (a : Result Reply Refusal)
+    → IsAwaited close done answers
+    → (responses 0 done (answers ++ a ∷ []) ≡ responses 0 done answers ++ answered (reply_of a) close)
+    × (length (answers ++ a ∷ []) ≡ length (commands done))
+awaited_text close done answers a w =
     let m = w.last in
     let n = closes_after (0 + length w.before + 1) m.head in
     let same : n ≡ close =
     ap (λ k. closes_after (k + 1) m.head) (let z : 0 + length w.before ≡ length w.before = omega arith in z)
     ∙ w.close_is in
-    let one : responses 0 done (told ++ a ∷ []) ≡ responses 0 w.before told ++ (answered (reply_of a) close ++ []) =
-    ap (λ d. responses 0 d (told ++ a ∷ [])) w.done_is ∙ responses-push 0 w.before m told (a ∷ []) w.told_before
-    ∙ ap (λ r. responses 0 w.before told ++ adds r n (a ∷ [])) w.asks
-    ∙ ap (λ b. responses 0 w.before told ++ (answered (reply_of a) b ++ [])) same in
-    let none : responses 0 done told ≡ responses 0 w.before told =
-    ap (λ d. responses 0 d told) w.done_is ∙ ap (λ t. responses 0 (w.before ++ m ∷ []) t) (sym (append-nil told))
-    ∙ responses-push 0 w.before m told [] w.told_before ∙ ap (λ r. responses 0 w.before told ++ adds r n []) w.asks
+    let one : responses 0 done (answers ++ a ∷ []) ≡ responses 0 w.before answers
+    ++ (answered (reply_of a) close ++ []) =
+    ap (λ d. responses 0 d (answers ++ a ∷ [])) w.done_is ∙ responses-push 0 w.before m answers (a ∷ []) w.told_before
+    ∙ ap (λ r. responses 0 w.before answers ++ adds r n (a ∷ [])) w.asks
+    ∙ ap (λ b. responses 0 w.before answers ++ (answered (reply_of a) b ++ [])) same in
+    let none : responses 0 done answers ≡ responses 0 w.before answers =
+    ap (λ d. responses 0 d answers) w.done_is ∙ ap (λ t. responses 0 (w.before ++ m ∷ []) t) (sym (append-nil answers))
+    ∙ responses-push 0 w.before m answers [] w.told_before
+    ∙ ap (λ r. responses 0 w.before answers ++ adds r n []) w.asks
     ∙ append-nil _ in
     let all : commands done ≡ commands w.before ++ w.what ∷ [] = ap commands w.done_is ∙ commands-push w.before m
     ∙ ap (λ r. commands w.before ++ command_of r) w.asks in (
       one ∙ ap (λ t. t ++ (answered (reply_of a) close ++ [])) (sym none)
-          ∙ ap (λ t. responses 0 done told ++ t) (append-nil _),
-      length-append told (a ∷ []) ∙ ap (λ k. k + 1) w.told_before
+          ∙ ap (λ t. responses 0 done answers ++ t) (append-nil _),
+      length-append answers (a ∷ []) ∙ ap (λ k. k + 1) w.told_before
           ∙ sym (length-append (commands w.before) (w.what ∷ [])) ∙ sym (ap length all),
     )
 
--- The session `s` waits for an answer. `new` is `s` after the answer `a`, with the response of `a` in its output. Then
--- `new` stands for the traffic that `s` stands for, with `a` told in addition.
+-- An answer adds its response to the output, and is told.
 pub answer_told : (s : SessionState) (past : Traffic) (a : Result Reply Refusal) → StandsFor s past
     → s.waiting ≢ Nothing
     → (new : SessionState) → new ≡ record s {
@@ -536,7 +500,7 @@ answer_told s past a st waits new e =
     by_waiting Answer _ n v w l t = absurd (cc v)
     by_waiting LastAnswer _ n v w l t = absurd (cc v)
 
--- The session that the code makes after an answer is the one that `answer_told` describes.
+-- The code's session after an answer is the one in `answer_told`.
 pub told_state : (s : SessionState) (out : List ℕ) (close : Bool) (d : Standing) (r : ℕ × List ℕ)
     → out ≡ s.output ++ answered r close → close ≡ is_last s.waiting → d ≡ standing_after close s.standing
     → (let new : SessionState = record s { output = out; waiting = Nothing; standing = d } in new)
@@ -556,15 +520,12 @@ told_state s out close d r eo ec ed =
 
 -- ---- How much may still come
 
--- On a live session that waits for no answer, the requests that are still allowed and the end may come (`to_come`).
 all_to_come : (s : SessionState) → IsFree s → to_come s ≡ s.left + 1
 all_to_come s free = ap (λ (z : Stage). still z s.left) (stage_live s.standing s.waiting free.live free.free)
 
--- A connection that was refused isn't live.
 pub refused_not_live : (status : ℕ) → Refused status ≡ Live → ⊥
 refused_not_live status e = cc
 
--- If a live session becomes one to which nothing more may come, its `to_come` falls.
 pub less_ended : (s new : SessionState) → IsFree s → to_come new ≡ 0 → to_come new < to_come s
 less_ended s new free e = let all = all_to_come s free in omega arith
 
@@ -572,7 +533,6 @@ some_left_by : (h close : Bool) (left : ℕ) → close ≡ (h || nat_le left 1) 
 some_left_by true close left e f = absurd (cc (sym e ∙ f))
 some_left_by false close left e f = let g : nat_le left 1 ≡ false = sym e ∙ f in grind (arith, nat_tests)
 
--- If a live session reads a request and then waits for its answer, its `to_come` falls.
 pub less_asked : (s : SessionState) (head : Head) (close : Bool) (unread : List ℕ) → IsFree s
     → close ≡ (head.close || nat_le s.left 1)
     → (new : SessionState) → new ≡ record s { unread = unread; left = s.left - 1; waiting = waiting_for close }
@@ -587,19 +547,17 @@ less_asked s head close unread free c new e =
     by_close true some = omega arith
     by_close false some = let h = some refl in omega arith
 
--- If `IsNearer` holds from `a` to `b` and from `b` to `c`, then `IsNearer` holds from `a` to `c`.
 pub nearer_then : (a b c : SessionState) → IsNearer a b → IsNearer b c → IsNearer a c
 nearer_then a b c (inl h) (inl k) = inl (omega arith)
 nearer_then a b c (inl h) (inr k) = inl (omega (arith, h, k.1))
 nearer_then a b c (inr h) (inl k) = inl (omega (arith, h.1, k))
 nearer_then a b c (inr h) (inr k) = inr (k.0 ∙ h.0, k.1 ∙ h.1)
 
--- If `IsNearer` holds from `a` to `b`, and `to_come` falls from `b` to `c`, then `to_come` falls from `a` to `c`.
 pub nearer_less : (a b c : SessionState) → IsNearer a b → to_come c < to_come b → to_come c < to_come a
 nearer_less a b c (inl h) k = omega arith
 nearer_less a b c (inr h) k = omega (arith, h.1, k)
 
--- An answer that is told doesn't change how much may still come.
+-- Telling an answer doesn't change how much may still come.
 pub told_still : (left : ℕ) (d new : Standing) (w : Waiting) (close : Bool) → close ≡ is_last w → w ≢ Nothing
     → new ≡ standing_after close d → still (stage_of new Nothing) left ≡ still (stage_of d w) left
 told_still left d new w close c waits e =
@@ -619,11 +577,9 @@ told_still left d new w close c waits e =
 abbrev pub Limits : Type 0
 Limits = (bytes : List ℕ) (found : Found) → IsFound bytes found → IsWithinLimits bytes found
 
--- If the reading gave no command and makes a quiet session, then `IsReadOut` holds for the session that has adopted the
--- reading.
 pub read_out : Limits → (o : Option Command) (s v new : SessionState) (bytes : List ℕ) (r : Progress) → v ≡ s
     → bytes ≡ v.unread → (o ≡ None → IsQuiet (read_state bytes r)) → new ≡ with_progress s r → IsReadOut o new
-read_out limits (Some what) s v new bytes r ev eb q e = tt
+read_out limits (Some command) s v new bytes r ev eb q e = tt
 read_out limits None s v new bytes r ev eb q e =
     let bytes_is : bytes ≡ s.unread = eb ∙ ap (λ (x : SessionState). x.unread) ev in
     let quiet = subst (λ (b : List ℕ). IsQuiet (read_state b r)) bytes_is (q refl) in
@@ -634,12 +590,10 @@ read_out limits None s v new bytes r ev eb q e =
 
 fewer_same : (o : Option Command) (a b s n : SessionState) → to_come a ≡ to_come s → to_come b ≡ to_come n
     → a.unread ≡ s.unread → b.unread ≡ n.unread → IsFewer o a b → IsFewer o s n
-fewer_same (Some what) a b s n ea eb ua ub h = omega arith
+fewer_same (Some command) a b s n ea eb ua ub h = omega arith
 fewer_same None a b s n ea eb ua ub (inl h) = inl (omega arith)
 fewer_same None a b s n ea eb ua ub (inr h) = inr (sym ub ∙ h.0 ∙ ua, sym eb ∙ h.1 ∙ ea)
 
--- If `IsFewer` holds over the reading, from `start` to `r`, then `IsFewer` also holds from the session `s` to the
--- session that has adopted `r`.
 pub fewer_by : (o : Option Command) (s v new : SessionState) (bytes : List ℕ) (start r : Progress) → v ≡ s
     → bytes ≡ v.unread → start ≡ record { read = 0; left = v.left; responses = []; standing = Live; waiting = Nothing }
     → IsFree s
@@ -655,8 +609,6 @@ fewer_by o s v new bytes start r ev eb es free h e =
 few_then_fed : (n : ℕ) → n < HEAD_BYTES + BODY_BYTES → PIECE_BYTES ≤ UNREAD_BYTES - n
 few_then_fed n h = omega arith
 
--- If no command is given and the session `new` is read out (`IsReadOut`), then a live `new` may be fed a whole piece
--- (`CanBeFed`).
 pub read_out_fed : (o : Option Command) (new : SessionState) → IsReadOut o new → CanBeFed o new
-read_out_fed (Some what) new r = tt
+read_out_fed (Some command) new r = tt
 read_out_fed None new r = λ live. few_then_fed (length new.unread) (r.1 live)

@@ -1,5 +1,4 @@
--- The commands that a session gave and the bytes that it wrote are those of all bytes of the connection, or the first
--- part of those.
+-- A session's commands and text belong to all bytes of the connection, or are their first part.
 use Rattle.std.proofs.Common.{◌≡◌, ◌≢◌, ℕ, List, [], ◌∷◌, ◌++◌, length, sym, ap, ◌∙◌, subst, arith, refl, Option, Some}
 use Rattle.std.proofs.Common.{None}
 use Rattle.std.specs.Prelude.{slice_get}
@@ -22,8 +21,6 @@ use Rattle.kds_session.proofs.Responses.{responses-front, responses-enough, comm
 
 -- ---- All bytes that were fed, if the session is quiet
 
--- Assume that no whole message is unread if the stage is `going`. Then the bytes `fed` fall into the messages `done`,
--- with the ending that the stage and the unread bytes determine (`end_in`). `stage_text` is the text of this ending.
 ending_of : (stage : Stage) (fed : List ℕ) (done : List Message) (left : ℕ) (unread : List ℕ)
     → Leads stage fed done left unread → (stage ≡ going → IsUnfinished unread)
     → (stage_text stage ≡ end_text (end_in stage unread)) × Falls 0 fed done (end_in stage unread)
@@ -37,8 +34,6 @@ live_by Live w e = refl
 live_by Closed w e = absurd (cc e)
 live_by (Refused status) w e = absurd (cc e)
 
--- If the session `s` is quiet (`IsQuiet`), the commands that `s` gave and the bytes that it wrote are those of all
--- bytes that `s` was fed. The fed bytes end as the state of `s` determines (`end_of`).
 pub quiet_text : (s : SessionState) (past : Traffic) → StandsFor s past → IsQuiet s
     → (http : IsHttp past.fed past.given past.told (past.sent ++ s.output)) × (http.ending ≡ end_of s)
 quiet_text s past st quiet =
@@ -63,7 +58,6 @@ over_more going fed done left unread more ends g = absurd (ends refl)
 over_more (over ending) fed done left unread more ends g =
     λ rest. subst (λ (z : List ℕ). Falls 0 z done ending) (sym (append_assoc fed more rest)) (g (more ++ rest))
 
--- If the session `s` isn't live, it stands for the same traffic with any bytes `more` fed in addition.
 pub nothing_more : (s : SessionState) (past : Traffic) → StandsFor s past → s.standing ≢ Live → (more : List ℕ)
     → StandsFor s (fed_more more past)
 nothing_more s past st ended more = record {
@@ -78,7 +72,6 @@ nothing_more s past st ended more = record {
 
 -- ---- All bytes that are fed, at any moment
 
--- The messages that were read are the first of all messages, whatever bytes follow.
 done_first : OneDivision
     → (stage : Stage) (fed : List ℕ) (done : List Message) (left : ℕ) (unread more : List ℕ) (all : List Message)
     (ending : Ending) → Leads stage fed done left unread → Falls 0 (fed ++ more) all ending
@@ -87,7 +80,6 @@ done_first one going fed done left unread more all ending g f = let b = g.back m
 done_first one (over e) fed done left unread more all ending g f = let same =
     one 0 (fed ++ more) all done ending e f (g more) in ([], same.0 ∙ sym (append-nil done))
 
--- The commands that were given are the first of all commands, whatever bytes follow.
 first_commands : OneDivision → (s : SessionState) (past : Traffic) → StandsFor s past
     → (more : List ℕ) (all : List Message) (ending : Ending) → Falls 0 (past.fed ++ more) all ending
     → (coming : List Command) × (commands all ≡ past.given ++ coming)
@@ -96,51 +88,48 @@ first_commands one s past st more all ending f =
     f in
     (commands d.0, ap commands d.1 ∙ commands-append st.done d.0 ∙ ap (λ z. z ++ commands d.0) (sym st.given_is))
 
--- The responses to the messages that were read are a prefix of the responses to all messages, whatever messages and
--- answers follow.
-front_more : (done ms all : List Message) (ending : Ending) (told later : Answers) → all ≡ done ++ ms
-    → (rest : List ℕ) × (responses 0 all (told ++ later) ++ end_text ending ≡ (responses 0 done told ++ []) ++ rest)
-front_more done ms all ending told later e =
-    let r = responses-front 0 done ms told later in (
+front_more : (done ms all : List Message) (ending : Ending) (answers later : Answers) → all ≡ done ++ ms
+    → (rest : List ℕ) × (responses 0 all (answers ++ later) ++ end_text ending ≡ (responses 0 done answers ++ [])
+    ++ rest)
+front_more done ms all ending answers later e =
+    let r = responses-front 0 done ms answers later in (
       r.0 ++ end_text ending,
-      ap (λ (z : List Message). responses 0 z (told ++ later) ++ end_text ending) e
+      ap (λ (z : List Message). responses 0 z (answers ++ later) ++ end_text ending) e
           ∙ ap (λ z. z ++ end_text ending) r.1
-          ∙ append_assoc (responses 0 done told) r.0 (end_text ending)
-          ∙ ap (λ z. z ++ (r.0 ++ end_text ending)) (sym (append-nil (responses 0 done told))),
+          ∙ append_assoc (responses 0 done answers) r.0 (end_text ending)
+          ∙ ap (λ z. z ++ (r.0 ++ end_text ending)) (sym (append-nil (responses 0 done answers))),
     )
 
 first_text : OneDivision
     → (d : Standing) (w : Waiting) (fed : List ℕ) (done : List Message) (left : ℕ) (unread more : List ℕ)
-    (all : List Message) (ending : Ending) (told later : Answers)
-    → (w ≢ Nothing → d ≡ Live) → Awaits w done told → Leads (stage_of d w) fed done left unread
+    (all : List Message) (ending : Ending) (answers later : Answers)
+    → (w ≢ Nothing → d ≡ Live) → Awaits w done answers → Leads (stage_of d w) fed done left unread
     → Falls 0 (fed ++ more) all ending
-    → (rest : List ℕ) × (responses 0 all (told ++ later) ++ end_text ending
-    ≡ (responses 0 done told ++ stage_text (stage_of d w)) ++ rest)
-first_text one Live Nothing fed done left unread more all ending told later live a g f = let b =
-    g.back more all ending f in front_more done b.0 all ending told later b.1
-first_text one Live Answer fed done left unread more all ending told later live a g f = let b =
-    g.back more all ending f in front_more done b.0 all ending told later b.1
-first_text one Live LastAnswer fed done left unread more all ending told later live a g f =
+    → (rest : List ℕ) × (responses 0 all (answers ++ later) ++ end_text ending
+    ≡ (responses 0 done answers ++ stage_text (stage_of d w)) ++ rest)
+first_text one Live Nothing fed done left unread more all ending answers later live a g f = let b =
+    g.back more all ending f in front_more done b.0 all ending answers later b.1
+first_text one Live Answer fed done left unread more all ending answers later live a g f = let b =
+    g.back more all ending f in front_more done b.0 all ending answers later b.1
+first_text one Live LastAnswer fed done left unread more all ending answers later live a g f =
     let same = one 0 (fed ++ more) all done ending closed f (g more) in
-    front_more done [] all ending told later (same.0 ∙ sym (append-nil done))
-first_text one Closed w fed done left unread more all ending told later live a g f =
+    front_more done [] all ending answers later (same.0 ∙ sym (append-nil done))
+first_text one Closed w fed done left unread more all ending answers later live a g f =
     let same = one 0 (fed ++ more) all done ending closed f (g more) in
-    front_more done [] all ending told later (same.0 ∙ sym (append-nil done))
-first_text one (Refused s) Nothing fed done left unread more all ending told later live a g f =
+    front_more done [] all ending answers later (same.0 ∙ sym (append-nil done))
+first_text one (Refused s) Nothing fed done left unread more all ending answers later live a g f =
     let same = one 0 (fed ++ more) all done ending (refused s) f (g more) in (
       [],
-      ap (λ (z : List Message). responses 0 z (told ++ later) ++ end_text ending) same.0
-          ∙ ap (λ (z : Ending). responses 0 done (told ++ later) ++ end_text z) same.1
-          ∙ ap (λ z. z ++ end_text (refused s)) (responses-enough 0 done told later a)
+      ap (λ (z : List Message). responses 0 z (answers ++ later) ++ end_text ending) same.0
+          ∙ ap (λ (z : Ending). responses 0 done (answers ++ later) ++ end_text z) same.1
+          ∙ ap (λ z. z ++ end_text (refused s)) (responses-enough 0 done answers later a)
           ∙ sym (append-nil _),
     )
-first_text one (Refused s) Answer fed done left unread more all ending told later live a g f =
+first_text one (Refused s) Answer fed done left unread more all ending answers later live a g f =
     absurd (cc (live (λ e. cc e)))
-first_text one (Refused s) LastAnswer fed done left unread more all ending told later live a g f =
+first_text one (Refused s) LastAnswer fed done left unread more all ending answers later live a g f =
     absurd (cc (live (λ e. cc e)))
 
--- The commands that were given are the first of all commands, and what was written is a prefix of all that is to be
--- written, whatever bytes and answers follow.
 pub first_parts : OneDivision → (s : SessionState) (past : Traffic) → StandsFor s past
     → (more : List ℕ) (all : List Message) (ending : Ending) → Falls 0 (past.fed ++ more) all ending
     → IsFirstPart all ending past.given past.told (past.sent ++ s.output)
@@ -158,8 +147,6 @@ get_seam : (xs : List Command) (y : Command) (ys : List Command) → slice_get (
 get_seam [] y ys = refl
 get_seam (x ∷ xs) y ys = get_seam xs y ys
 
--- Among the commands of all bytes that were fed, the command that `next` gives follows those already given. If `next`
--- gives none, there is no further command.
 pub next_is : OneDivision → (o : Option Command) (new : SessionState) (past : Traffic) → IsNext o new past
     → (ms : List Message) (ending : Ending) → Falls 0 past.fed ms ending
     → o ≡ slice_get (commands ms) (length past.given)
@@ -169,7 +156,7 @@ next_is one None new past n ms ending f =
     let same = one 0 past.fed ms h.messages ending h.ending f h.falls in
     sym (ap (λ z. slice_get z (length past.given)) (ap commands same.0 ∙ h.commands_are)
     ∙ slice_get_past past.given (length past.given) (omega arith))
-next_is one (Some what) new past n ms ending f =
-    let p = first_commands one new (given_one what past) n.0 [] ms ending
+next_is one (Some command) new past n ms ending f =
+    let p = first_commands one new (given_one command past) n.0 [] ms ending
     (subst (λ (z : List ℕ). Falls 0 z ms ending) (sym (append-nil past.fed)) f) in
-    sym (ap (λ z. slice_get z (length past.given)) p.1 ∙ get_seam past.given what p.0)
+    sym (ap (λ z. slice_get z (length past.given)) p.1 ∙ get_seam past.given command p.0)

@@ -1,13 +1,11 @@
--- Defines what contracts see of a session.
+-- What contracts see of a session.
 use Rattle.std.specs.Prelude.{ℕ, List, Bool, true, false}
 use Rattle.kds_session.specs.declared.state.Standing.{Standing}
 use Rattle.kds_session.specs.declared.state.Standing.TheVariants.{Closed}
 use Rattle.kds_session.specs.declared.state.Waiting.{Waiting}
 use Rattle.kds_session.specs.declared.state.Waiting.TheVariants.{Nothing, Answer, LastAnswer}
 
--- What contracts see of a session: the bytes that were fed and aren't read yet (`unread`), the bytes of responses that
--- aren't sent yet (`output`), and how many further requests are allowed (`left`). Then follow the state of the
--- connection, and whether a command waits for its answer.
+-- A session: `output` isn't sent yet, and `left` further requests are allowed.
 pub record SessionState : Type 0 where
   pub unread : List ℕ
   pub output : List ℕ
@@ -15,20 +13,18 @@ pub record SessionState : Type 0 where
   pub standing : Standing
   pub waiting : Waiting
 
--- What a session waits for after it gave a command. The Boolean is true if the connection closes after the command's
--- answer.
-abbrev pub waiting_for : Bool → Waiting
+-- What a session waits for after a command; with `closes`, the connection closes after the answer.
+abbrev pub waiting_for : (closes : Bool) → Waiting
 waiting_for true = LastAnswer
 waiting_for false = Answer
 
--- Whether the session waits for an answer after which the connection closes.
-abbrev pub is_last : Waiting → Bool
+-- Whether the connection closes after the awaited answer.
+abbrev pub is_last : (waiting : Waiting) → Bool
 is_last Nothing = false
 is_last Answer = false
 is_last LastAnswer = true
 
--- The state of the connection after a response, by its state before. The Boolean is true if the connection closes after
--- this response.
-abbrev pub standing_after : Bool → Standing → Standing
+-- The connection's state after a response, which closes it if `closes`.
+abbrev pub standing_after : (closes : Bool) (standing : Standing) → Standing
 standing_after true standing = Closed
 standing_after false standing = standing

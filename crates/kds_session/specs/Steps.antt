@@ -1,4 +1,4 @@
--- Defines the steps by which `next` reads messages until one asks for a command.
+-- The steps by which `next` reads messages until one asks for a command.
 use Rattle.std.specs.Prelude.{◌≡◌, ◌≢◌, ℕ, ◌<◌, List, ◌++◌, drop, true, Option, IfSome}
 use Rattle.kds_head.specs.declared.found.Head.{Head}
 use Rattle.kds_head.specs.declared.found.Found.TheVariants.{Refused as RefusedHead, Whole as WholeHead}
@@ -19,21 +19,19 @@ use Rattle.kds_session.specs.Next.{IsNearer}
 
 -- ---- What the unread bytes begin with
 
--- If a head is kept in `kept`, the bytes `bytes` begin with this head.
-abbrev pub IsKept : List ℕ → Option Head → Type 0
+-- If a head is kept, the bytes begin with it.
+abbrev pub IsKept : (bytes : List ℕ) (kept : Option Head) → Type 0
 IsKept bytes kept = IfSome kept (λ head. IsFound bytes (WholeHead head))
 
--- What the bytes `bytes` begin with: a message whose head isn't whole (`Unfinished`), a whole head whose body isn't
--- whole (`Begun`), a head that is refused with a status, or a whole message. `Unfinished` is also allowed for a whole
--- head whose body isn't whole.
-abbrev pub IsFront : List ℕ → Front → Type 0
+-- What the bytes begin with; `Unfinished` may also stand for a whole head without its whole body.
+abbrev pub IsFront : (bytes : List ℕ) (front : Front) → Type 0
 IsFront bytes front.Unfinished = IsUnfinished bytes
 IsFront bytes (front.Begun head) = IsShort bytes head
 IsFront bytes (front.Refused status) = IsFound bytes (RefusedHead status)
 IsFront bytes (front.Whole head) = IsWhole bytes head
 
--- If the bytes begin with a head that is refused, the status in the argument is one with which connections are refused.
-abbrev pub IsKnown : Front → Type 0
+-- A refused head has a status with which connections are refused.
+abbrev pub IsKnown : (front : Front) → Type 0
 IsKnown front.Unfinished = Unit {0}
 IsKnown (front.Begun head) = Unit {0}
 IsKnown (front.Refused status) = is_refusal status ≡ true
@@ -41,10 +39,8 @@ IsKnown (front.Whole head) = Unit {0}
 
 -- ---- How `next` reads on
 
--- The session that the reading `r` alone makes. A reading (`Progress`) is what one call of `next` has consumed and
--- answered so far. The unread bytes are those of `bytes` that `r` hasn't consumed, and the output has only the
--- responses of `r`.
-abbrev pub read_state : List ℕ → Progress → SessionState
+-- The session that a reading alone makes: what one call of `next` consumed of `bytes` and answered.
+abbrev pub read_state : (bytes : List ℕ) (r : Progress) → SessionState
 read_state bytes r = record {
   unread = drop r.read bytes;
   output = r.responses;
@@ -53,9 +49,8 @@ read_state bytes r = record {
   waiting = r.waiting;
 }
 
--- The session `s` after it adopts the reading `r` of its unread bytes. The bytes that `r` consumed are no longer
--- unread, and the responses of `r` are added to the output.
-abbrev pub with_progress : SessionState → Progress → SessionState
+-- The session after it adopts the reading of its unread bytes.
+abbrev pub with_progress : (s : SessionState) (r : Progress) → SessionState
 with_progress s r = record {
   unread = drop r.read s.unread;
   output = s.output ++ r.responses;
@@ -64,28 +59,23 @@ with_progress s r = record {
   waiting = r.waiting;
 }
 
--- The session `s` is live, and waits for no answer.
+-- The session is live and waits for no answer.
 pub record IsFree (s : SessionState) : Type 0 where
   pub live : s.standing ≡ Live
   pub free : s.waiting ≡ Nothing
 
--- The session `new` is as it must be after the step, before which the traffic `past` had passed. After Stop, `new`
--- stands for `past`, and no further message can be read now (`IsQuiet`). After Answered, a faulty request was answered,
--- and `new` stands for `past`. After Command, `new` stands for `past` with the command added, and waits for its answer.
-abbrev pub IsStepped : Step → SessionState → Traffic → Type 0
+-- The session after a step: quiet after Stop, the same traffic after Answered, one more command after Command.
+abbrev pub IsStepped : (step : Step) (new : SessionState) (past : Traffic) → Type 0
 IsStepped step.Stop new past = StandsFor new past × IsQuiet new
 IsStepped step.Answered new past = StandsFor new past
-IsStepped (step.Command what) new past = StandsFor new (given_one what past) × (new.waiting ≢ Nothing)
+IsStepped (step.Command command) new past = StandsFor new (given_one command past) × (new.waiting ≢ Nothing)
 
--- For each traffic that the session `old` stands for, the session `new` is as it must be after the step `step`
--- (`IsStepped`).
-abbrev pub Steps : SessionState → SessionState → Step → Type 0
+-- Whatever `old` stands for, `new` is as it must be after the step.
+abbrev pub Steps : (old new : SessionState) (step : Step) → Type 0
 Steps old new step = (past : Traffic) → StandsFor old past → IsStepped step new past
 
--- What a step leads to, whatever was fed before. After Stop, the session `new` is quiet, and less may still come or
--- nothing was read (`IsNearer`). After Answered, `new` is live, waits for no answer, and may read fewer requests than
--- `old`. After Command, `new` waits for the answer to a command of the stream service, and less may still come.
-abbrev pub IsPlainly : Step → (old new : SessionState) → Type 0
+-- What a step leads to: a quiet session, a free one with fewer requests, or one that awaits an answer.
+abbrev pub IsPlainly : (step : Step) → (old new : SessionState) → Type 0
 IsPlainly step.Stop old new = IsQuiet new × IsNearer old new
 IsPlainly step.Answered old new = IsFree new × (new.left < old.left)
-IsPlainly (step.Command what) old new = (new.waiting ≢ Nothing) × IsRequest what × (to_come new < to_come old)
+IsPlainly (step.Command command) old new = (new.waiting ≢ Nothing) × IsRequest command × (to_come new < to_come old)

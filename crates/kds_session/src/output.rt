@@ -31,8 +31,8 @@ fn write_response(
 ) -> Result<usize, Memory>
     requires nothing { text.old.items ≡ [] }
     requires own { is_service_answer answer.now ≡ true }
-    ensures begins { IfOk result (λ at. at ≤ length text.new.items) }
-    ensures response { IfOk result (λ at. drop at text.new.items ≡ answered (reply_of answer.now) close) }
+    ensures begins { IfOk result (λ start. start ≤ length text.new.items) }
+    ensures response { IfOk result (λ start. drop start text.new.items ≡ answered (reply_of answer.now) close) }
 {
     text.extend_from_slice(&GAP)?;
     let status = add_reply(alloc, answer, text)?;

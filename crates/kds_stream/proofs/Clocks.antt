@@ -1,6 +1,4 @@
--- A stream still shows its journal and keeps its invariant (`IsStream`) after its clock moves on, and after one of its
--- logs loses its trimmed records (is settled). A retreat sets a stream's clock and cut back to `clock_before` and
--- `cut_before`.
+-- A stream shows its journal and keeps its invariant when its clock moves on or a log is settled.
 use Rattle.std.proofs.Common.{◌≡◌, ℕ, zero, suc, ◌+◌, ◌≤◌, Bool, true, false, List, [], ◌∷◌, length, Option, refl, sym}
 use Rattle.std.proofs.Common.{ap, ◌∙◌, arith}
 use Rattle.std.specs.Prelude.{cond, not, nat_le, nat_lt, ◌&&◌}
@@ -19,8 +17,6 @@ use Rattle.kds_stream.specs.Value.{IsStream, StreamValue, cut_at, later_cut}
 
 -- ---- Logs and a higher trim floor
 
--- If logs keep the records of a journal except for some that arrived before the time `floor` (`AreKept`), the same is
--- true with a later time `higher` instead of `floor`.
 pub kept_higher : (floor higher : ℕ) (log : Journal) (s n : ℕ) (ls : List LogValue) → floor ≤ higher
     → AreKept floor log s n ls → AreKept higher log s n ls
 kept_higher floor higher log s n [] le h = tt
@@ -29,8 +25,7 @@ kept_higher floor higher log s n (l ∷ ls) le h = (
   kept_higher floor higher log s (n + 1) ls le h.1,
 )
 
--- A stream still shows its journal after its clock moves on to `clock`. Its cut (the trim horizon) becomes `cut`, the
--- later one of its old cut and the cut at `clock`.
+-- A stream still shows its journal when its clock moves on and its cut with it.
 pub shows_advanced : (v : StreamValue) (log : Journal) (clock : ℕ) (cut : Option ℕ)
     → cut ≡ later_cut v.cut (cut_at clock v.hours) → v.clock ≤ clock → Shows v log
     → Shows (record v { clock = clock; cut = cut; clock_before = v.clock; cut_before = v.cut }) log
@@ -54,8 +49,7 @@ shows_advanced v log clock cut is later shown =
       rates = shown.rates;
     }
 
--- A stream keeps its invariant (`IsStream`) after its clock moves on to `clock`. Its cut (the trim horizon) becomes
--- `cut`, the later one of its old cut and the cut at `clock`.
+-- A stream keeps its invariant when its clock moves on and its cut with it.
 pub stream_advanced : (v : StreamValue) (clock : ℕ) (cut : Option ℕ) → cut ≡ later_cut v.cut (cut_at clock v.hours)
     → v.clock ≤ clock → IsStream v
     → IsStream (record v { clock = clock; cut = cut; clock_before = v.clock; cut_before = v.cut })
@@ -90,8 +84,7 @@ left_twice_by false true r rs f p g isb isc le h = absurd (late r.arrival r.seq 
     late arrival seq f p g isb isc le = grind (arith, nat_tests)
 left_twice_by false false r rs f p g isb isc le h = h
 
--- Let the floor `g` be at most the floor `f`. Trimming records at `g` and then at `f` leaves the same records as
--- trimming them at `f` alone. In both cases, only records from the position `p` on are left.
+-- Trimming at an earlier floor first makes no difference.
 pub left_twice : (f p g : ℕ) (rs : List Logged) → g ≤ f → left_among f p (left_among g 0 rs) ≡ left_among f p rs
 left_twice f p g [] le = refl
 left_twice f p g (r ∷ rs) le =
@@ -108,8 +101,7 @@ kept_settled floor log s n zero (l ∷ ls) h =
     (record { from = floor; early = omega arith; rest = same }, h.1)
 kept_settled floor log s n (suc i) (l ∷ ls) h = (h.0, kept_settled floor log s (n + 1) i ls h.1)
 
--- The stream `v` after the log at the index `i` has lost its trimmed records. The log at the index `next` is the next
--- one to be settled, and a retreat goes back to `clock` and `cut`.
+-- The stream after the log at `i` was settled, with the given index to settle next, and clock and cut of a retreat.
 abbrev pub settled_at_index : StreamValue → ℕ → ℕ → Option ℕ → ℕ → StreamValue
 settled_at_index v i clock cut next =
     record v {
@@ -119,7 +111,6 @@ settled_at_index v i clock cut next =
       next_to_settle = next;
     }
 
--- A stream still shows its journal after the log at the index `i` has lost its trimmed records.
 pub shows_settled : (v : StreamValue) (i clock : ℕ) (cut : Option ℕ) (next : ℕ) (log : Journal) → Shows v log
     → Shows (settled_at_index v i clock cut next) log
 shows_settled v i clock cut next log shown = record {
@@ -138,7 +129,6 @@ shows_settled v i clock cut next log shown = record {
   rates = shown.rates;
 }
 
--- A stream keeps its invariant (`IsStream`) after the log at the index `i` has lost its trimmed records.
 pub settled_stream : (v : StreamValue) (i next : ℕ) → IsStream v → IsStream (settled_at_index v i v.clock v.cut next)
 settled_stream v i next is = record {
   as_many = length-settled (floor_of v.cut) i v.logs ∙ is.as_many;

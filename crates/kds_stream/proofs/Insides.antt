@@ -4,6 +4,5 @@ use Rattle.kds_defs.specs.Journal.{Journal}
 use Rattle.kds_stream.specs.Showing.{Shows}
 use Rattle.kds_stream.specs.Value.{StreamValue}
 
--- If the stream value `u` shows a journal, an equal value `v` shows this journal too.
 pub shown_inside : (log : Journal) {u v : StreamValue} → v ≡ u → Shows u log → Shows v log
 shown_inside log is shows = subst (λ (w : StreamValue). Shows w log) (sym is) shows

@@ -1,5 +1,4 @@
--- LocalEnforceLimits turns the limits on throughput on or off: the answer of the decision, and what the stream shows
--- after it.
+-- LocalEnforceLimits: the answer of the decision, and what the stream shows after it.
 use Rattle.std.proofs.Common.{◌≡◌, ℕ, Bool, ◌∷◌, refl}
 use Rattle.std.specs.Prelude.{◌==◌, Ok}
 use Rattle.kds_defs.specs.declared.entry.Entry.TheVariants as entry
@@ -15,17 +14,16 @@ use Rattle.kds_stream.proofs.Others.{kept_along}
 use Rattle.kds_stream.specs.Showing.{Shows}
 use Rattle.kds_stream.specs.Value.{StreamValue}
 
--- The line by which the actor `by` turns the limits of the stream `v` on if `on` is true, and off if it is false.
+-- The line by which the actor `actor` turns the limits of the stream on or off.
 abbrev pub limits_line : StreamValue → ℕ → Bool → Line
-limits_line v by on = plain_line v.clock by (entry.Enforced v.no on)
+limits_line v actor is_on = plain_line v.clock actor (entry.Enforced v.no is_on)
 
--- The decision that turns the limits on or off answers `Done`. With the new setting `on`, the stream shows the journal
--- with the decision's line.
-pub enforce_done : (v : StreamValue) (log : Journal) (by : ℕ) (on : Bool) → Shows v log
-    → (Ok reply.Done ≡ answer_of (enforce log v.clock by v.no on))
-    × Shows (record v { enforced = on; clock_before = v.clock; cut_before = v.cut })
-    (with_lines (lines_of (enforce log v.clock by v.no on)) log)
-enforce_done v log by on shown = (
+-- The answer is `Done`, and the stream with the new setting shows the journal with the line.
+pub enforce_done : (v : StreamValue) (log : Journal) (actor : ℕ) (is_on : Bool) → Shows v log
+    → (Ok reply.Done ≡ answer_of (enforce log v.clock actor v.no is_on))
+    × Shows (record v { enforced = is_on; clock_before = v.clock; cut_before = v.cut })
+    (with_lines (lines_of (enforce log v.clock actor v.no is_on)) log)
+enforce_done v log actor is_on shown = (
   refl,
   record {
     stored = record {
@@ -36,12 +34,13 @@ enforce_done v log by on shown = (
       hours_are = shown.stored.hours_are;
       shards_are = shown.stored.shards_are;
       next_is = omega (arith, shown.stored.next_is);
-      floor_is = floor_same log (limits_line v by on) v.no v.clock (omega arith) refl ∙ shown.stored.floor_is;
-      kept = kept_along (floor_of v.cut) log (limits_line v by on ∷ log) v.no 0 v.logs (λ sh. refl) shown.stored.kept;
+      floor_is = floor_same log (limits_line v actor is_on) v.no v.clock (omega arith) refl ∙ shown.stored.floor_is;
+      kept = kept_along (floor_of v.cut) log (limits_line v actor is_on ∷ log) v.no 0 v.logs (λ sh. refl)
+          shown.stored.kept;
       none_beyond = shown.stored.none_beyond;
     };
     rates = record {
-      enforced_is = chosen (v.no == v.no) on (is_enforced log v.no) (is_itself v.no);
+      enforced_is = chosen (v.no == v.no) is_on (is_enforced log v.no) (is_itself v.no);
       stand = shown.rates.stand;
       none_beyond = shown.rates.none_beyond;
     };

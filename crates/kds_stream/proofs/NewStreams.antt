@@ -1,4 +1,4 @@
--- A new stream meets the invariant (`IsStream`), and shows the journal with the line that makes this stream.
+-- A new stream meets the invariant, and shows the journal with the line that makes it.
 use Rattle.std.proofs.Common.{◌≡◌, ℕ, zero, suc, ◌+◌, ◌*◌, ◌/◌, ◌^◌, ◌≤◌, false, List, [], ◌∷◌, length, Option, refl}
 use Rattle.std.proofs.Common.{sym, ap, subst, ◌∙◌, arith}
 use Rattle.std.specs.Prelude.{◌==◌, replicate}
@@ -35,7 +35,6 @@ all_first : (next n start : ℕ) (ranges : List Span) → AllByRecursion (EndsUn
 all_first next n start [] = tt
 all_first next n start (r ∷ rs) = (tt, all_first next (n + 1) start rs)
 
--- If `P` is true of `x`, then `P` is true of each element of a list that has `n` times the element `x`.
 pub all_replicate : {A : Type 0} (P : A → Type 0) (n : ℕ) (x : A) → P x → AllByRecursion P (replicate n x)
 all_replicate P zero x h = tt
 all_replicate P (suc n) x h = (h, all_replicate P n x h)
@@ -60,8 +59,7 @@ open_first n start (r ∷ rs) = ap suc (open_first (n + 1) start rs)
 few_made : (count : ℕ) → IsShardCount count → length (filter is_open (made_shards count 1)) ≤ OPEN_SHARDS
 few_made count h = omega (arith, h.1, open_first 0 1 (uniform count), length_uniform (2 ^ 128 / count) 0 count)
 
--- The value of a stream that was just made at the time `made`, with the number `s` and the name `name`. Its retention
--- is that of new streams (`FIRST_HOURS`), its limits are off, and its next sequence number is 1.
+-- A stream just made: the first retention, limits off, and the next sequence number 1.
 abbrev pub new_value : ℕ → ℕ → List ℕ → List ShardState → List LogValue → List WindowValue → Option ℕ → Option ℕ
     → StreamValue
 new_value s made name tree logs windows cut cut_before = record {
@@ -81,8 +79,6 @@ new_value s made name tree logs windows cut cut_before = record {
   next_to_settle = 0;
 }
 
--- A stream that was just made, with `count` shards, as many empty logs and as many unused windows, meets the invariant
--- (`IsStream`).
 pub new_stream : (s : ℕ) (name : List ℕ) (made count : ℕ) (tree : List ShardState) (logs : List LogValue)
     (windows : List WindowValue)
     → (cut cut_before : Option ℕ) → IsShardCount count → tree ≡ made_shards count 1 → logs ≡ replicate count empty_log
@@ -111,25 +107,25 @@ new_stream s name made count tree logs windows cut cut_before counted shards_are
       fits = omega arith;
     }
 
-module _ (log : Journal) (by s : ℕ) (name : List ℕ) (made count : ℕ) (fresh : IsFresh log s) where
-  drawn : next_number (plain_line made by (entry.Made s name count) ∷ log) s ≡ 1
+module _ (log : Journal) (actor s : ℕ) (name : List ℕ) (made count : ℕ) (fresh : IsFresh log s) where
+  drawn : next_number (plain_line made actor (entry.Made s name count) ∷ log) s ≡ 1
   drawn = omega (arith, fresh.undrawn)
 
   floor_made : (cut : Option ℕ) → cut ≡ cut_at made FIRST_HOURS
-      → trim_floor (plain_line made by (entry.Made s name count) ∷ log) made s ≡ floor_of cut
+      → trim_floor (plain_line made actor (entry.Made s name count) ∷ log) made s ≡ floor_of cut
   floor_made cut is =
-      first_floor log (plain_line made by (entry.Made s name count)) s (or_left (s == s) (was_made log s) (is_itself s))
+      first_floor log (plain_line made actor (entry.Made s name count)) s
+      (or_left (s == s) (was_made log s) (is_itself s))
       fresh.unmade fresh.no_floor
       ∙ ap (λ h. floor_at made (h * HOUR)) (chosen (s == s) FIRST_HOURS (hours log s) (is_itself s))
       ∙ sym (cut_floor made FIRST_HOURS)
       ∙ ap floor_of (sym is)
 
-  -- If stream `s` is new to the journal `log` (`IsFresh`), the stream that was just made shows `log` with the line that
-  -- makes it.
+  -- A stream that is new to the journal shows it with the line that makes the stream.
   pub shows_new : (tree : List ShardState) (logs : List LogValue) (windows : List WindowValue)
       (cut cut_before : Option ℕ) → tree ≡ made_shards count 1
       → logs ≡ replicate count empty_log → AllByRecursion IsUnused windows → cut ≡ cut_at made FIRST_HOURS
-      → Shows (new_value s made name tree logs windows cut cut_before) (plain_line made by (entry.Made s name count)
+      → Shows (new_value s made name tree logs windows cut cut_before) (plain_line made actor (entry.Made s name count)
       ∷ log)
   shows_new tree logs windows cut cut_before shards_are logs_are unused is = record {
     stored = record {
@@ -142,8 +138,8 @@ module _ (log : Journal) (by s : ℕ) (name : List ℕ) (made count : ℕ) (fres
       next_is = drawn;
       floor_is = floor_made cut is;
       kept =
-          subst (AreKept (floor_of cut) (plain_line made by (entry.Made s name count) ∷ log) s 0) (sym logs_are)
-          (kept_none (floor_of cut) (plain_line made by (entry.Made s name count) ∷ log) s 0 count fresh.no_records);
+          subst (AreKept (floor_of cut) (plain_line made actor (entry.Made s name count) ∷ log) s 0) (sym logs_are)
+          (kept_none (floor_of cut) (plain_line made actor (entry.Made s name count) ∷ log) s 0 count fresh.no_records);
       none_beyond = λ sh beyond. fresh.no_records sh;
     };
     rates =

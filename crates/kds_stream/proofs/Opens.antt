@@ -1,24 +1,22 @@
--- If fewer than `OPEN_SHARDS` shards are open, at most `OPEN_SHARDS` are open after a split that isn't refused. If at
--- most `OPEN_SHARDS` shards are open, the same is true after a merge that isn't refused.
-use Rattle.std.proofs.Common.{◌≡◌, ℕ, zero, suc, ◌+◌, ◌<◌, ◌≤◌, Bool, true, false, List, [], ◌∷◌, ◌++◌, length, Option}
+-- A split or a merge that isn't refused leaves at most `OPEN_SHARDS` open shards.
+use Rattle.std.proofs.Common.{◌≡◌, ℕ, zero, suc, ◌+◌, ◌<◌, ◌≤◌, Bool, true, false, List, [], ◌∷◌, ◌++◌, length}
 use Rattle.std.proofs.Common.{Some, None, refl, sym, ap, ◌∙◌, arith, length-append}
-use Rattle.std.specs.Prelude.{cond, not, slice_get, if◌then◌else◌}
+use Rattle.std.specs.Prelude.{cond, slice_get, if◌then◌else◌}
 use Rattle.std.specs.List.{filter}
 use Rattle.std.proofs.lemmas.List.Elements.{filter-append}
 use Rattle.kds_base.specs.Span.{joined, lower_part, upper_part}
 use Rattle.kds_base.proofs.Facts.{both_left}
 use Rattle.kds_defs.specs.declared.limits.TheConstants.{OPEN_SHARDS}
-use Rattle.kds_defs.specs.declared.reply.Refusal.{Refusal}
 use Rattle.kds_defs.specs.Shards.{Closing, ShardState, is_open, merged_shards, new_shard, range_of, split_shards}
 use Rattle.kds_defs.specs.Shards.{with_closed}
 use Rattle.kds_defs.specs.StreamCommands.{is_open_at}
 use Rattle.kds_tree.specs.Tree.{merge_refusal, split_refusal}
+use Rattle.kds_tree.proofs.Reshards.{passed}
 
--- The number of open shards among `xs`.
+-- The number of open shards.
 abbrev pub open_among : List ShardState → ℕ
 open_among xs = length (filter is_open xs)
 
--- If `b` is true, so that the shard `x` is put in front of the list `xs`, the list has one more element.
 one_more : (b : Bool) (x : ShardState) (xs : List ShardState) → b ≡ true → length (cond b (x ∷ xs) xs) ≡ suc (length xs)
 one_more true x xs h = refl
 one_more false x xs h = absurd cc
@@ -32,7 +30,6 @@ no_less : (b : Bool) (x : ShardState) (xs : List ShardState) → length xs ≤ l
 no_less true x xs = omega arith
 no_less false x xs = omega arith
 
--- After the shard at the index `sh` is closed, at most as many shards are open as before.
 open_closed : (sh : ℕ) (closing : Closing) (xs : List ShardState)
     → open_among (with_closed sh closing xs) ≤ open_among xs
 open_closed sh closing [] = omega arith
@@ -45,7 +42,6 @@ both_more : (b : Bool) (x : ShardState) (xs ys : List ShardState) → suc (lengt
 both_more true x xs ys h = ap suc h
 both_more false x xs ys h = h
 
--- After the open shard at the index `sh` is closed, one shard fewer is open than before.
 open_fewer : (sh : ℕ) (closing : Closing) (xs : List ShardState) → is_open_at (slice_get xs sh) ≡ true
     → suc (open_among (with_closed sh closing xs)) ≡ open_among xs
 open_fewer sh closing [] h = absurd cc
@@ -59,12 +55,9 @@ open-append xs ys = ap length (filter-append is_open xs ys) ∙ length-append (f
 
 -- ---- What is known of a split or a merge that isn't refused
 
-passed : (b : Bool) (r : Refusal) (o : Option Refusal) → (if not b then Some r else o) ≡ None → (b ≡ true) × (o ≡ None)
-passed true r o h = (refl, h)
-passed false r o h = absurd cc
-
-splits_open : (xs : List ShardState) (sh at : ℕ) → split_refusal xs sh at ≡ None → is_open_at (slice_get xs sh) ≡ true
-splits_open xs sh at passes = (passed _ _ _ (passed _ _ _ passes).1).0
+splits_open : (xs : List ShardState) (sh hash : ℕ) → split_refusal xs sh hash ≡ None
+    → is_open_at (slice_get xs sh) ≡ true
+splits_open xs sh hash passes = (passed _ _ _ (passed _ _ _ passes).1).0
 
 merges_open : (xs : List ShardState) (sh other : ℕ) → merge_refusal xs sh other ≡ None
     → is_open_at (slice_get xs sh) ≡ true
@@ -72,20 +65,17 @@ merges_open xs sh other passes = both_left _ _ (passed _ _ _ (passed _ _ _ passe
 
 -- ---- The limit
 
--- If fewer than `OPEN_SHARDS` shards are open before a split that isn't refused, at most `OPEN_SHARDS` are open after
--- it.
-pub few_split : (xs : List ShardState) (sh at start : ℕ) (closing : Closing) → open_among xs < OPEN_SHARDS
-    → split_refusal xs sh at ≡ None → open_among (split_shards sh at closing start xs) ≤ OPEN_SHARDS
-few_split xs sh at start closing few passes =
-    let children = new_shard (length xs) (lower_part (range_of (slice_get xs sh)) at) (Some sh) None start
-    ∷ new_shard (length xs + 1) (upper_part (range_of (slice_get xs sh)) at) (Some sh) None start ∷ [] in
+pub few_split : (xs : List ShardState) (sh hash start : ℕ) (closing : Closing) → open_among xs < OPEN_SHARDS
+    → split_refusal xs sh hash ≡ None → open_among (split_shards sh hash closing start xs) ≤ OPEN_SHARDS
+few_split xs sh hash start closing few passes =
+    let children = new_shard (length xs) (lower_part (range_of (slice_get xs sh)) hash) (Some sh) None start
+    ∷ new_shard (length xs + 1) (upper_part (range_of (slice_get xs sh)) hash) (Some sh) None start ∷ [] in
     omega (
       arith,
       open-append (with_closed sh closing xs) children,
-      open_fewer sh closing xs (splits_open xs sh at passes),
+      open_fewer sh closing xs (splits_open xs sh hash passes),
     )
 
--- If at most `OPEN_SHARDS` shards are open before a merge that isn't refused, at most `OPEN_SHARDS` are open after it.
 pub few_merged : (xs : List ShardState) (sh other start : ℕ) (closing : Closing) → open_among xs ≤ OPEN_SHARDS
     → merge_refusal xs sh other ≡ None → open_among (merged_shards sh other closing start xs) ≤ OPEN_SHARDS
 few_merged xs sh other start closing few passes =

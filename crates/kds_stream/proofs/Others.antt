@@ -13,8 +13,6 @@ use Rattle.kds_stream.specs.Value.{StreamValue}
 
 -- ---- Journals with the same records
 
--- Let the journals `log` and `log'` have the same records of stream `s`. If logs keep the records of `s` in `log`
--- (`AreKept`), the same logs keep those in `log'`.
 pub kept_along : (floor : ℕ) (log log' : Journal) (s n : ℕ) (ls : List LogValue)
     → ((sh : ℕ) → records log' s sh ≡ records log s sh)
     → AreKept floor log s n ls → AreKept floor log' s n ls
@@ -22,11 +20,9 @@ kept_along floor log log' s n [] same h = tt
 kept_along floor log log' s n (l ∷ ls) same h =
     (subst (λ rs. IsKept floor rs l.kept) (sym (same n)) h.0, kept_along floor log log' s (n + 1) ls same h.1)
 
--- If a stream shows a journal, it also shows the journal with a further line about another stream or about a lease,
--- provided that the line's clock is the stream's.
 pub shows_other : (v : StreamValue) (log : Journal) (line : Line) → Shows v log → line.clock ≡ v.clock
     → stream_of line.what ≢ Some v.no → Shows v (line ∷ log)
-shows_other v log line shown at other =
+shows_other v log line shown is_at other =
     let same = same_stream log line v.no other in
     record {
       stored = record {

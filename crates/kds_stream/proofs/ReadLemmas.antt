@@ -1,4 +1,4 @@
--- What can be read of a shard by the journal is what can be read from the shard's log.
+-- What can be read of a shard by the journal is what can be read from its log.
 use Rattle.std.proofs.Common.{◌≡◌, ℕ, zero, suc, ◌+◌, ◌-◌, ◌^◌, ◌<◌, List, [], ◌∷◌, length, get_or, Option, Some, None}
 use Rattle.std.proofs.Common.{refl, sym, ap, subst, ◌∙◌, arith}
 use Rattle.std.specs.Prelude.{is_none, if◌then◌else◌}
@@ -17,24 +17,20 @@ use Rattle.kds_stream.specs.Value.{IsStream, StreamValue}
 
 -- ---- The sequence numbers in a log
 
--- All sequence numbers in a log of a stream are below the greatest `u64`.
 pub below_last : (v : StreamValue) (i : ℕ) (l : LogValue) → IsStream v → i < length v.logs → l ≡ get_or v.logs i l
     → IsBelow (2 ^ 64 - 1) l
-below_last v i l is below at = by l.last (all_at (IsBelow v.next) v.logs i l below at is.numbers)
+below_last v i l is below is_at = cases l.last (all_at (IsBelow v.next) v.logs i l below is_at is.numbers)
   where
-    by : (last : Option ℕ) → IsUnder v.next last → IsUnder (2 ^ 64 - 1) last
-    by None h = tt
-    by (Some n) h = omega (arith, is.fits)
+    cases : (last : Option ℕ) → IsUnder v.next last → IsUnder (2 ^ 64 - 1) last
+    cases None h = tt
+    cases (Some n) h = omega (arith, is.fits)
 
 -- ---- What is left of a shard's records
 
--- A list of records is empty if and only if `first_arrival` gives no time of arrival for it.
 pub are_none_by : (rs : List Logged) → are_none rs ≡ is_none (first_arrival rs)
 are_none_by [] = refl
 are_none_by (r ∷ rs) = refl
 
--- How far a reader is behind (`behind`) is how long ago the first record of the list arrived, or 0 if the list is
--- empty.
 pub behind_first : (clock : ℕ) (rs : List Logged) → behind clock rs ≡ behind_by clock (first_arrival rs)
 behind_first clock [] = refl
 behind_first clock (r ∷ rs) = refl
@@ -52,7 +48,6 @@ kept_at floor log s n (suc i) (x ∷ ls) l h below is =
 
 module _ (v : StreamValue) (log : Journal) (shown : Shows v log) (sh : ℕ) (l : LogValue) (below : sh < length v.logs)
     (is : l ≡ get_or v.logs sh l) where
-  -- By the journal, the untrimmed records of shard `sh` from `position` on are those that the shard's log `l` has.
   pub left_is : (position : ℕ) → left_from log v.clock v.no sh position ≡ left_among (floor_of v.cut) position l.kept
   left_is position =
       let e : 0 + sh ≡ sh = omega arith in
@@ -65,7 +60,6 @@ module _ (v : StreamValue) (log : Journal) (shown : Shows v log) (sh : ℕ) (l :
       ∙ sym (ap (left_among (floor_of v.cut) position) k.rest
       ∙ left_twice (floor_of v.cut) position k.from (records log v.no sh) k.early)
 
-  -- By the journal, the batch of a read of shard `sh` is the one that results from the records in the shard's log `l`.
   pub batch_is : (position limit : ℕ)
       → batch log v.clock v.no sh position limit ≡ batch_among (floor_of v.cut) position limit l.kept
   batch_is position limit = ap (beginning limit BATCH_BYTES) (left_is position)

@@ -1,4 +1,4 @@
--- After a split or a merge, the stream shows the journal with the new line, and keeps its invariant (`IsStream`).
+-- After a split or a merge, the stream shows the journal with its line and keeps its invariant.
 use Rattle.std.proofs.Common.{◌≡◌, ◌≢◌, ℕ, zero, suc, ◌+◌, ◌^◌, ◌<◌, ◌≤◌, Bool, List, [], ◌∷◌, ◌++◌, length, None}
 use Rattle.std.proofs.Common.{refl, sym, ap, subst, ◌∙◌, arith, length-append}
 use Rattle.std.specs.Prelude.{◌==◌, Ok}
@@ -40,15 +40,11 @@ ends_closed next sh closing [] below h = tt
 ends_closed next zero closing (x ∷ xs) below h = (below, h.1)
 ends_closed next (suc sh) closing (x ∷ xs) below h = (h.0, ends_closed next sh closing xs below h.1)
 
--- If all ending sequence numbers are below `next`, and a split takes a number below `next`, all ending sequence numbers
--- after the split are below `next`.
-pub ends_split : (next sh at start : ℕ) (closing : Closing) (xs : List ShardState) → closing.number < next
-    → AllByRecursion (EndsUnder next) xs → AllByRecursion (EndsUnder next) (split_shards sh at closing start xs)
-ends_split next sh at start closing xs below h =
+pub ends_split : (next sh hash start : ℕ) (closing : Closing) (xs : List ShardState) → closing.number < next
+    → AllByRecursion (EndsUnder next) xs → AllByRecursion (EndsUnder next) (split_shards sh hash closing start xs)
+ends_split next sh hash start closing xs below h =
     all_append (EndsUnder next) (with_closed sh closing xs) _ (ends_closed next sh closing xs below h) (tt, (tt, tt))
 
--- If all ending sequence numbers are below `next`, and a merge takes a number below `next`, all ending sequence numbers
--- after the merge are below `next`.
 pub ends_merged : (next sh other start : ℕ) (closing : Closing) (xs : List ShardState) → closing.number < next
     → AllByRecursion (EndsUnder next) xs → AllByRecursion (EndsUnder next) (merged_shards sh other closing start xs)
 ends_merged next sh other start closing xs below h =
@@ -86,9 +82,7 @@ all_empty P new p h = all_weaker (λ l. l ≡ empty_log) P (λ l is. subst P (sy
 
 -- ---- The stream after a split or a merge
 
--- Let at most `OPEN_SHARDS` of the shards `tree` be open, and let all their ending sequence numbers be below `next`. If
--- a stream gets these shards, the next sequence number `next`, and an empty log and an unused window for each new
--- shard, it keeps its invariant (`IsStream`).
+-- A stream keeps its invariant with a larger tree, and an empty log and an unused window for each new shard.
 pub stream_grown : (v : StreamValue) (tree : List ShardState) (new : List LogValue) (ws : List WindowValue) (next : ℕ)
     → v.next ≤ next → next < 2 ^ 64
     → AllByRecursion (λ l. l ≡ empty_log) new → AllByRecursion IsUnused ws → length ws ≡ length new
@@ -120,9 +114,6 @@ stream_grown v tree new ws next more within empty unused beside grown few ends i
   fits = within;
 }
 
--- Suppose that a line at the stream's clock changes only what the journal says of the stream's shards and next sequence
--- number. Let the stream get these new values, and an empty log and an unused window for each new shard. Then the
--- stream shows the journal with the line.
 shows_grown : (v : StreamValue) (log : Journal) (line : Line) (tree : List ShardState) (new : List LogValue)
     (ws : List WindowValue) (next : ℕ) → line.clock ≡ v.clock → is_live (line ∷ log) v.no ≡ is_live log v.no
     → was_made (line ∷ log) v.no ≡ was_made log v.no → name_of (line ∷ log) v.no ≡ name_of log v.no
@@ -141,7 +132,7 @@ shows_grown : (v : StreamValue) (log : Journal) (line : Line) (tree : List Shard
       clock_before = v.clock;
       cut_before = v.cut;
     }) (line ∷ log)
-shows_grown v log line tree new ws next at live was named made lasts enforces same same_puts shards_are next_is empty
+shows_grown v log line tree new ws next is_at live was named made lasts enforces same same_puts shards_are next_is empty
     unused grown as_many as_wide show = record {
       stored = record {
         live = live ∙ show.stored.live;
@@ -169,12 +160,12 @@ shows_grown v log line tree new ws next at live was named made lasts enforces sa
           };
     }
 
-module _ (v : StreamValue) (log : Journal) (by : ℕ) (show : Shows v log) (as_many : length v.logs ≡ length v.tree)
+module _ (v : StreamValue) (log : Journal) (actor : ℕ) (show : Shows v log) (as_many : length v.logs ≡ length v.tree)
     (as_wide : length v.windows ≡ length v.tree) where
-  -- Let the stream get the shards and the next sequence number after a split, two empty logs, and the unused windows
-  -- `ws`, and let it remember its present clock and cut. Then it shows the journal with the split's line.
-  pub shows_split : (sh at next : ℕ) (tree : List ShardState) (logs : List LogValue) (windows ws : List WindowValue)
-      → next ≡ v.next + 1 → tree ≡ split_shards sh at (record { number = v.next; clock = v.clock }) (v.next + 1) v.tree
+  -- After a split, with two empty logs and unused windows, the stream shows the journal with its line.
+  pub shows_split : (sh hash next : ℕ) (tree : List ShardState) (logs : List LogValue) (windows ws : List WindowValue)
+      → next ≡ v.next + 1 → tree ≡ split_shards sh hash (record { number = v.next; clock = v.clock }) (v.next + 1)
+      v.tree
       → logs ≡ v.logs ++ (empty_log ∷ empty_log ∷ []) → windows ≡ v.windows ++ ws → AllByRecursion IsUnused ws
       → Shows (record v {
         tree = tree;
@@ -183,17 +174,17 @@ module _ (v : StreamValue) (log : Journal) (by : ℕ) (show : Shows v log) (as_m
         next = next;
         clock_before = v.clock;
         cut_before = v.cut;
-      }) (split_line log v.clock by v.no sh at ∷ log)
-  shows_split sh at next tree logs windows ws drawn tree_is logs_are windows_are unused =
-      let more : next_number (split_line log v.clock by v.no sh at ∷ log) v.no ≡ v.next + 1 =
+      }) (split_line log v.clock actor v.no sh hash ∷ log)
+  shows_split sh hash next tree logs windows ws drawn tree_is logs_are windows_are unused =
+      let more : next_number (split_line log v.clock actor v.no sh hash ∷ log) v.no ≡ v.next + 1 =
       one_more (v.no == v.no) (next_number log v.no) v.next (is_itself v.no) show.stored.next_is in
-      let after : shards (split_line log v.clock by v.no sh at ∷ log) v.no ≡ tree =
+      let after : shards (split_line log v.clock actor v.no sh hash ∷ log) v.no ≡ tree =
       chosen (v.no == v.no) _ (shards log v.no) (is_itself v.no)
-      ∙ ap (λ n. split_shards sh at (record { number = n; clock = v.clock })
-      (next_number (split_line log v.clock by v.no sh at ∷ log) v.no)
+      ∙ ap (λ n. split_shards sh hash (record { number = n; clock = v.clock })
+      (next_number (split_line log v.clock actor v.no sh hash ∷ log) v.no)
       (shards log v.no)) show.stored.next_is
-      ∙ ap (λ n. split_shards sh at (record { number = v.next; clock = v.clock }) n (shards log v.no)) more
-      ∙ ap (split_shards sh at (record { number = v.next; clock = v.clock }) (v.next + 1)) show.stored.shards_are
+      ∙ ap (λ n. split_shards sh hash (record { number = v.next; clock = v.clock }) n (shards log v.no)) more
+      ∙ ap (split_shards sh hash (record { number = v.next; clock = v.clock }) (v.next + 1)) show.stored.shards_are
       ∙ sym tree_is in
       subst (λ (us : List WindowValue).
       Shows (record v {
@@ -203,7 +194,7 @@ module _ (v : StreamValue) (log : Journal) (by : ℕ) (show : Shows v log) (as_m
         next = next;
         clock_before = v.clock;
         cut_before = v.cut;
-      }) (split_line log v.clock by v.no sh at ∷ log)) (sym windows_are)
+      }) (split_line log v.clock actor v.no sh hash ∷ log)) (sym windows_are)
       (subst (λ (ls : List LogValue).
       Shows (record v {
         tree = tree;
@@ -212,14 +203,14 @@ module _ (v : StreamValue) (log : Journal) (by : ℕ) (show : Shows v log) (as_m
         next = next;
         clock_before = v.clock;
         cut_before = v.cut;
-      }) (split_line log v.clock by v.no sh at ∷ log)) (sym logs_are)
-      (shows_grown v log (split_line log v.clock by v.no sh at) tree (empty_log ∷ empty_log ∷ []) ws next refl refl refl
+      }) (split_line log v.clock actor v.no sh hash ∷ log)) (sym logs_are)
+      (shows_grown v log (split_line log v.clock actor v.no sh hash) tree (empty_log ∷ empty_log ∷ []) ws next refl refl
+      refl
       refl refl refl refl (λ n. refl) (λ n. refl) after (more ∙ sym drawn) (refl, (refl, tt)) unused
-      (ap length tree_is ∙ length_split sh at (v.next + 1) (record { number = v.next; clock = v.clock }) v.tree)
+      (ap length tree_is ∙ length_split sh hash (v.next + 1) (record { number = v.next; clock = v.clock }) v.tree)
       as_many as_wide show))
 
-  -- Let the stream get the shards and the next sequence number after a merge, an empty log, and the unused windows
-  -- `ws`, and let it remember its present clock and cut. Then it shows the journal with the merge's line.
+  -- After a merge, with an empty log and an unused window, the stream shows the journal with its line.
   pub shows_merged : (sh other next : ℕ) (tree : List ShardState) (logs : List LogValue) (windows ws : List WindowValue)
       → next ≡ v.next + 1 → tree ≡ merged_shards sh other (record { number = v.next; clock = v.clock }) (v.next + 1)
       v.tree → logs ≡ v.logs ++ (empty_log ∷ []) → windows ≡ v.windows ++ ws → AllByRecursion IsUnused ws
@@ -230,14 +221,14 @@ module _ (v : StreamValue) (log : Journal) (by : ℕ) (show : Shows v log) (as_m
         next = next;
         clock_before = v.clock;
         cut_before = v.cut;
-      }) (merge_line log v.clock by v.no sh other ∷ log)
+      }) (merge_line log v.clock actor v.no sh other ∷ log)
   shows_merged sh other next tree logs windows ws drawn tree_is logs_are windows_are unused =
-      let more : next_number (merge_line log v.clock by v.no sh other ∷ log) v.no ≡ v.next + 1 =
+      let more : next_number (merge_line log v.clock actor v.no sh other ∷ log) v.no ≡ v.next + 1 =
       one_more (v.no == v.no) (next_number log v.no) v.next (is_itself v.no) show.stored.next_is in
-      let after : shards (merge_line log v.clock by v.no sh other ∷ log) v.no ≡ tree =
+      let after : shards (merge_line log v.clock actor v.no sh other ∷ log) v.no ≡ tree =
       chosen (v.no == v.no) _ (shards log v.no) (is_itself v.no)
       ∙ ap (λ n. merged_shards sh other (record { number = n; clock = v.clock })
-      (next_number (merge_line log v.clock by v.no sh other ∷ log) v.no)
+      (next_number (merge_line log v.clock actor v.no sh other ∷ log) v.no)
       (shards log v.no)) show.stored.next_is
       ∙ ap (λ n. merged_shards sh other (record { number = v.next; clock = v.clock }) n (shards log v.no)) more
       ∙ ap (merged_shards sh other (record { number = v.next; clock = v.clock }) (v.next + 1)) show.stored.shards_are
@@ -250,7 +241,7 @@ module _ (v : StreamValue) (log : Journal) (by : ℕ) (show : Shows v log) (as_m
         next = next;
         clock_before = v.clock;
         cut_before = v.cut;
-      }) (merge_line log v.clock by v.no sh other ∷ log)) (sym windows_are)
+      }) (merge_line log v.clock actor v.no sh other ∷ log)) (sym windows_are)
       (subst (λ (ls : List LogValue).
       Shows (record v {
         tree = tree;
@@ -259,18 +250,16 @@ module _ (v : StreamValue) (log : Journal) (by : ℕ) (show : Shows v log) (as_m
         next = next;
         clock_before = v.clock;
         cut_before = v.cut;
-      }) (merge_line log v.clock by v.no sh other ∷ log)) (sym logs_are)
-      (shows_grown v log (merge_line log v.clock by v.no sh other) tree (empty_log ∷ []) ws next refl refl refl refl
+      }) (merge_line log v.clock actor v.no sh other ∷ log)) (sym logs_are)
+      (shows_grown v log (merge_line log v.clock actor v.no sh other) tree (empty_log ∷ []) ws next refl refl refl refl
       refl refl refl (λ n. refl) (λ n. refl) after (more ∙ sym drawn) (refl, tt) unused
       (ap length tree_is ∙ length_merged sh other (v.next + 1) (record { number = v.next; clock = v.clock }) v.tree)
       as_many as_wide show))
 
--- A stream in which fewer than `OPEN_SHARDS` shards are open keeps its invariant (`IsStream`) after a split that isn't
--- refused.
-pub stream_split : (v : StreamValue) (sh at next : ℕ) (tree : List ShardState) (logs : List LogValue)
+pub stream_split : (v : StreamValue) (sh hash next : ℕ) (tree : List ShardState) (logs : List LogValue)
     (windows ws : List WindowValue) → next ≡ v.next + 1 → v.next ≢ last_number
-    → length (filter is_open v.tree) < OPEN_SHARDS → split_refusal v.tree sh at ≡ None
-    → tree ≡ split_shards sh at (record { number = v.next; clock = v.clock }) (v.next + 1) v.tree
+    → length (filter is_open v.tree) < OPEN_SHARDS → split_refusal v.tree sh hash ≡ None
+    → tree ≡ split_shards sh hash (record { number = v.next; clock = v.clock }) (v.next + 1) v.tree
     → logs ≡ v.logs ++ (empty_log ∷ empty_log ∷ []) → windows ≡ v.windows ++ ws → AllByRecursion IsUnused ws
     → length ws ≡ length (empty_log ∷ empty_log ∷ []) → IsStream v
     → IsStream (record v {
@@ -281,7 +270,7 @@ pub stream_split : (v : StreamValue) (sh at next : ℕ) (tree : List ShardState)
       clock_before = v.clock;
       cut_before = v.cut;
     })
-stream_split v sh at next tree logs windows ws drawn free few passes tree_is logs_are windows_are unused beside is =
+stream_split v sh hash next tree logs windows ws drawn free few passes tree_is logs_are windows_are unused beside is =
     let how : Closing = record { number = v.next; clock = v.clock } in
     subst (λ (us : List WindowValue).
     IsStream (record v {
@@ -303,14 +292,13 @@ stream_split v sh at next tree logs windows ws drawn free few passes tree_is log
     })) (sym logs_are)
     (stream_grown v tree (empty_log ∷ empty_log ∷ []) ws next (omega arith)
     (one_free v.next next drawn free is.fits) (refl, (refl, tt)) unused beside
-    (ap length tree_is ∙ length_split sh at (v.next + 1) how v.tree)
+    (ap length tree_is ∙ length_split sh hash (v.next + 1) how v.tree)
     (subst (λ (xs : List ShardState). length (filter is_open xs) ≤ OPEN_SHARDS) (sym tree_is)
-    (few_split v.tree sh at (v.next + 1) how few passes))
+    (few_split v.tree sh hash (v.next + 1) how few passes))
     (subst (AllByRecursion (EndsUnder next)) (sym tree_is)
-    (ends_split next sh at (v.next + 1) how v.tree (omega arith)
+    (ends_split next sh hash (v.next + 1) how v.tree (omega arith)
     (ends_later v.next next v.tree (omega arith) is.endings))) is))
 
--- A stream keeps its invariant (`IsStream`) after a merge that isn't refused.
 pub stream_merged : (v : StreamValue) (sh other next : ℕ) (tree : List ShardState) (logs : List LogValue)
     (windows ws : List WindowValue) → next ≡ v.next + 1 → v.next ≢ last_number → merge_refusal v.tree sh other ≡ None
     → tree ≡ merged_shards sh other (record { number = v.next; clock = v.clock }) (v.next + 1) v.tree
@@ -355,26 +343,24 @@ stream_merged v sh other next tree logs windows ws drawn free passes tree_is log
 
 -- ---- The answers to an accepted SplitShard and MergeShards
 
--- Let the streams `u` and `v` be equal, and let the split be accepted at `u`. Then the decision answers `Done`. A
--- stream `w` that shows the journal with the split's line at `v` shows the journal with the decision's lines.
-pub split_done : (u v w : StreamValue) (full : Bool) (log : Journal) (by sh at : ℕ) → v ≡ u
-    → split_where full log u.clock by u.no sh at ≡ Accepted (split_line log u.clock by u.no sh at ∷ []) reply.Done
-    → Shows w (split_line log v.clock by v.no sh at ∷ log)
-    → (Ok reply.Done ≡ answer_of (split_where full log u.clock by u.no sh at))
-    × Shows w (with_lines (lines_of (split_where full log u.clock by u.no sh at)) log)
-split_done u v w full log by sh at same is shows =
-    after_accepted (split_where full log u.clock by u.no sh at) (split_line log u.clock by u.no sh at ∷ [])
+pub split_done : (u v w : StreamValue) (full : Bool) (log : Journal) (actor sh hash : ℕ) → v ≡ u
+    → split_where full log u.clock actor u.no sh hash
+    ≡ Accepted (split_line log u.clock actor u.no sh hash ∷ []) reply.Done
+    → Shows w (split_line log v.clock actor v.no sh hash ∷ log)
+    → (Ok reply.Done ≡ answer_of (split_where full log u.clock actor u.no sh hash))
+    × Shows w (with_lines (lines_of (split_where full log u.clock actor u.no sh hash)) log)
+split_done u v w full log actor sh hash same is shows =
+    after_accepted (split_where full log u.clock actor u.no sh hash) (split_line log u.clock actor u.no sh hash ∷ [])
     reply.Done log (λ l. Shows w l) is
-    (subst (λ (x : StreamValue). Shows w (split_line log x.clock by x.no sh at ∷ log)) same shows)
+    (subst (λ (x : StreamValue). Shows w (split_line log x.clock actor x.no sh hash ∷ log)) same shows)
 
--- Let the streams `u` and `v` be equal, and let the merge be accepted at `u`. Then the decision answers `Done`. A
--- stream `w` that shows the journal with the merge's line at `v` shows the journal with the decision's lines.
-pub merge_done : (u v w : StreamValue) (log : Journal) (by sh other : ℕ) → v ≡ u
-    → merge log u.clock by u.no sh other ≡ Accepted (merge_line log u.clock by u.no sh other ∷ []) reply.Done
-    → Shows w (merge_line log v.clock by v.no sh other ∷ log)
-    → (Ok reply.Done ≡ answer_of (merge log u.clock by u.no sh other))
-    × Shows w (with_lines (lines_of (merge log u.clock by u.no sh other)) log)
-merge_done u v w log by sh other same is shows =
-    after_accepted (merge log u.clock by u.no sh other) (merge_line log u.clock by u.no sh other ∷ []) reply.Done log
-    (λ l. Shows w l) is (subst (λ (x : StreamValue). Shows w (merge_line log x.clock by x.no sh other ∷ log))
+pub merge_done : (u v w : StreamValue) (log : Journal) (actor sh other : ℕ) → v ≡ u
+    → merge log u.clock actor u.no sh other ≡ Accepted (merge_line log u.clock actor u.no sh other ∷ []) reply.Done
+    → Shows w (merge_line log v.clock actor v.no sh other ∷ log)
+    → (Ok reply.Done ≡ answer_of (merge log u.clock actor u.no sh other))
+    × Shows w (with_lines (lines_of (merge log u.clock actor u.no sh other)) log)
+merge_done u v w log actor sh other same is shows =
+    after_accepted (merge log u.clock actor u.no sh other) (merge_line log u.clock actor u.no sh other ∷ [])
+    reply.Done log
+    (λ l. Shows w l) is (subst (λ (x : StreamValue). Shows w (merge_line log x.clock actor x.no sh other ∷ log))
     same shows)

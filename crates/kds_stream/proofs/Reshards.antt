@@ -1,13 +1,12 @@
--- What the decisions on SplitShard and MergeShards are, if the results of the code's tests are known. The shard tree
--- holds the stream's shards, and tests whether shards exist, are open, and may be split or merged (`split_refusal` and
--- `merge_refusal`).
+-- The decisions on SplitShard and MergeShards by the results of the code's tests.
 use Rattle.std.proofs.Common.{◌≡◌, ◌≢◌, ℕ, ◌+◌, ◌^◌, ◌<◌, Bool, true, false, List, [], ◌∷◌, length, Option, Some, None}
 use Rattle.std.proofs.Common.{refl, sym, ap, subst, ◌∙◌, arith}
 use Rattle.std.specs.Prelude.{◌==◌, ◌&&◌, ◌||◌, not, nat_lt, is_some, slice_get, if◌then◌else◌}
 use Rattle.std.proofs.lemmas.Bool.Decides.{nat_tests}
 use Rattle.std.proofs.lemmas.Bool.{and_from, or_right, or_from}
+use Rattle.std.proofs.lemmas.Option.{same_Some}
 use Rattle.kds_base.specs.Span.{are_adjacent, is_inside}
-use Rattle.kds_base.proofs.Facts.{is_other, is_equal, same_some}
+use Rattle.kds_base.proofs.Facts.{is_other, is_equal}
 use Rattle.kds_defs.proofs.Decisions.{passed_if, refused_if}
 use Rattle.kds_defs.specs.declared.reply.Refusal.{Refusal}
 use Rattle.kds_defs.specs.declared.reply.Refusal.TheVariants as refusal
@@ -25,20 +24,16 @@ use Rattle.kds_tree.specs.Tree.{merge_refusal, split_refusal}
 
 -- ---- The tests of the shard tree and those of the decision
 
--- If the shard exists (`s`) and the shard tree refuses its split with `r`, the decision refuses the split with `r` too.
--- `a` says whether the shard is open, and `b` whether the key lies inside the shard's range.
 split_tests : (s a b : Bool) (r : Refusal) (rest : Decision) → s ≡ true
     → Some r ≡ (if not s then Some refusal.NoShard else if not a then Some refusal.ShardClosed else if not b then Some
     refusal.BadSplit else None)
     → (refuse refusal.ShardClosed if not a else refuse refusal.BadSplit if not b else rest) ≡ Refused r
 unfolding refuse◌if◌else◌
 split_tests false a b r rest made h = absurd cc
-split_tests true false b r rest made h = ap Refused (sym (same_some r refusal.ShardClosed h))
-split_tests true true false r rest made h = ap Refused (sym (same_some r refusal.BadSplit h))
+split_tests true false b r rest made h = ap Refused (sym (same_Some r refusal.ShardClosed h))
+split_tests true true false r rest made h = ap Refused (sym (same_Some r refusal.BadSplit h))
 split_tests true true true r rest made h = absurd cc
 
--- If the shard tree doesn't refuse the split of a shard, the decision's tests don't either, and the decision is `rest`.
--- `s` says whether the shard exists, `a` whether it is open, and `b` whether the key lies inside its range.
 split_passes : (s a b : Bool) (rest : Decision)
     → None ≡ (if not s then Some refusal.NoShard else if not a then Some refusal.ShardClosed else if not b then Some
     refusal.BadSplit else None)
@@ -49,20 +44,16 @@ split_passes true false b rest h = absurd cc
 split_passes true true false rest h = absurd cc
 split_passes true true true rest h = refl
 
--- If the two shards exist (`s`) and the shard tree refuses their merge with `r`, the decision refuses the merge with
--- `r` too. `a` says whether the two shards are open, and `b` whether they are adjacent.
 merge_tests : (s a b : Bool) (r : Refusal) (rest : Decision) → s ≡ true
     → Some r ≡ (if not s then Some refusal.NoShard else if not a then Some refusal.ShardClosed else if not b then Some
     refusal.NotAdjacent else None)
     → (refuse refusal.ShardClosed if not a else refuse refusal.NotAdjacent if not b else rest) ≡ Refused r
 unfolding refuse◌if◌else◌
 merge_tests false a b r rest made h = absurd cc
-merge_tests true false b r rest made h = ap Refused (sym (same_some r refusal.ShardClosed h))
-merge_tests true true false r rest made h = ap Refused (sym (same_some r refusal.NotAdjacent h))
+merge_tests true false b r rest made h = ap Refused (sym (same_Some r refusal.ShardClosed h))
+merge_tests true true false r rest made h = ap Refused (sym (same_Some r refusal.NotAdjacent h))
 merge_tests true true true r rest made h = absurd cc
 
--- If the shard tree doesn't refuse the merge of two shards, the decision's tests don't either, and the decision is
--- `rest`. `s` says whether the two shards exist, `a` whether they are open, and `b` whether they are adjacent.
 merge_passes : (s a b : Bool) (rest : Decision)
     → None ≡ (if not s then Some refusal.NoShard else if not a then Some refusal.ShardClosed else if not b then Some
     refusal.NotAdjacent else None)
@@ -77,7 +68,6 @@ there : (floor : ℕ) (o : Option ShardState) → is_listed_at floor o ≡ true 
 there floor None h = absurd cc
 there floor (Some x) h = refl
 
--- If there are fewer than 2^63 shards, the numbers of two more shards fit in a `u64`.
 few : (n : ℕ) → n < 2 ^ 63 → nat_lt last_number (n + 1) ≡ false
 few n h = grind (arith, nat_tests)
 
@@ -86,7 +76,7 @@ few_one n h = grind (arith, nat_tests)
 
 -- ---- The decisions
 
-module _ (v : StreamValue) (log : Journal) (by : ℕ) (show : Shows v log) where
+module _ (v : StreamValue) (log : Journal) (actor : ℕ) (show : Shows v log) where
   spent_next : (a : Bool) → v.next ≡ last_number → (a || next_number log v.no == last_number) ≡ true
   spent_next a spent = or_right a (next_number log v.no == last_number)
       (is_equal (next_number log v.no) last_number (show.stored.next_is ∙ spent))
@@ -99,61 +89,53 @@ module _ (v : StreamValue) (log : Journal) (by : ℕ) (show : Shows v log) where
   few_shards : length v.tree < 2 ^ 63 → length (shards log v.no) < 2 ^ 63
   few_shards h = subst (λ (xs : List ShardState). length xs < 2 ^ 63) (sym show.stored.shards_are) h
 
-  module _ (full : Bool) (sh at : ℕ) where
-    -- The rest of the decision on SplitShard after the tests of the shard tree. It tests the limit on open shards
-    -- (`full`), and whether sequence numbers and shard numbers are left, and accepts if neither test fails.
+  module _ (full : Bool) (sh hash : ℕ) where
     split_rest : Decision
     split_rest =
         refuse refusal.Full if full else
         refuse refusal.Spent if nat_lt last_number (length (shards log v.no) + 1) || next_number log v.no
         == last_number else
-        Accepted (split_line log v.clock by v.no sh at ∷ []) reply.Done
+        Accepted (split_line log v.clock actor v.no sh hash ∷ []) reply.Done
 
-    -- If the shard isn't listed, SplitShard is refused with `NoShard`.
     pub split_unlisted : is_listed_at (floor_of v.cut) (slice_get v.tree sh) ≡ false
-        → split_where full log v.clock by v.no sh at ≡ Refused refusal.NoShard
+        → split_where full log v.clock actor v.no sh hash ≡ Refused refusal.NoShard
     split_unlisted h = refused_if _ _ _ (ap not (listed_is v log show sh ∙ h))
 
     split_listed : is_listed_at (floor_of v.cut) (slice_get v.tree sh) ≡ true
-        → split_where full log v.clock by v.no sh at
+        → split_where full log v.clock actor v.no sh hash
         ≡ (refuse refusal.ShardClosed if not (is_open_at (slice_get v.tree sh)) else refuse refusal.BadSplit if not
-        (is_inside (range_of (slice_get v.tree sh)) at) else split_rest)
+        (is_inside (range_of (slice_get v.tree sh)) hash) else split_rest)
     unfolding split_rest
     split_listed h =
         passed_if _ _ _ (ap not (listed_is v log show sh ∙ h))
         ∙ ap (λ o. refuse refusal.ShardClosed if not (is_open_at o) else refuse refusal.BadSplit if not
-        (is_inside (range_of o) at) else split_rest) (shard_is v log show sh)
+        (is_inside (range_of o) hash) else split_rest) (shard_is v log show sh)
 
-    -- If the shard is listed, and the shard tree refuses its split with `r`, SplitShard is refused with `r`.
     pub split_refused : (r : Refusal) → is_listed_at (floor_of v.cut) (slice_get v.tree sh) ≡ true
-        → Some r ≡ split_refusal v.tree sh at → split_where full log v.clock by v.no sh at ≡ Refused r
+        → Some r ≡ split_refusal v.tree sh hash → split_where full log v.clock actor v.no sh hash ≡ Refused r
     split_refused r listed h =
         split_listed listed ∙ split_tests (is_some (slice_get v.tree sh)) _ _ r split_rest
         (there (floor_of v.cut) (slice_get v.tree sh) listed) h
 
-    -- If the shard is listed and the shard tree doesn't refuse its split, but no further shard may be open (`full`),
-    -- SplitShard is refused with `Full`.
-    pub split_full : is_listed_at (floor_of v.cut) (slice_get v.tree sh) ≡ true → None ≡ split_refusal v.tree sh at
-        → full ≡ true → split_where full log v.clock by v.no sh at ≡ Refused refusal.Full
+    pub split_full : is_listed_at (floor_of v.cut) (slice_get v.tree sh) ≡ true → None ≡ split_refusal v.tree sh hash
+        → full ≡ true → split_where full log v.clock actor v.no sh hash ≡ Refused refusal.Full
     unfolding split_rest
     split_full listed h is =
         split_listed listed ∙ split_passes (is_some (slice_get v.tree sh)) _ _ split_rest h ∙ refused_if _ _ _ is
 
-    -- If the shard is listed, the shard tree doesn't refuse its split and a further shard may be open, but no sequence
-    -- number is left, SplitShard is refused with `Spent`.
-    pub split_spent : is_listed_at (floor_of v.cut) (slice_get v.tree sh) ≡ true → None ≡ split_refusal v.tree sh at
-        → full ≡ false → v.next ≡ last_number → split_where full log v.clock by v.no sh at ≡ Refused refusal.Spent
+    pub split_spent : is_listed_at (floor_of v.cut) (slice_get v.tree sh) ≡ true → None ≡ split_refusal v.tree sh hash
+        → full ≡ false → v.next ≡ last_number → split_where full log v.clock actor v.no sh hash ≡ Refused refusal.Spent
     unfolding split_rest
     split_spent listed h room spent =
         split_listed listed ∙ split_passes (is_some (slice_get v.tree sh)) _ _ split_rest h
         ∙ passed_if _ _ _ room
         ∙ refused_if _ _ _ (spent_next (nat_lt last_number (length (shards log v.no) + 1)) spent)
 
-    -- Let the shard be listed, let the shard tree not refuse its split, and let a further shard be allowed to be open.
-    -- If a sequence number is left and there are fewer than 2^63 shards, SplitShard is accepted.
-    pub split_accepted : is_listed_at (floor_of v.cut) (slice_get v.tree sh) ≡ true → None ≡ split_refusal v.tree sh at
+    pub split_accepted : is_listed_at (floor_of v.cut) (slice_get v.tree sh) ≡ true
+        → None ≡ split_refusal v.tree sh hash
         → full ≡ false → v.next ≢ last_number → length v.tree < 2 ^ 63
-        → split_where full log v.clock by v.no sh at ≡ Accepted (split_line log v.clock by v.no sh at ∷ []) reply.Done
+        → split_where full log v.clock actor v.no sh hash
+        ≡ Accepted (split_line log v.clock actor v.no sh hash ∷ []) reply.Done
     unfolding split_rest
     split_accepted listed h room free small =
         split_listed listed ∙ split_passes (is_some (slice_get v.tree sh)) _ _ split_rest h
@@ -166,7 +148,7 @@ module _ (v : StreamValue) (log : Journal) (by : ℕ) (show : Shows v log) where
     merge_rest =
         refuse refusal.Spent if nat_lt last_number (length (shards log v.no)) || next_number log v.no
         == last_number else
-        Accepted (merge_line log v.clock by v.no sh other ∷ []) reply.Done
+        Accepted (merge_line log v.clock actor v.no sh other ∷ []) reply.Done
 
     both_listed : (is_listed log v.clock v.no sh && is_listed log v.clock v.no other)
         ≡ (is_listed_at (floor_of v.cut) (slice_get v.tree sh)
@@ -175,15 +157,14 @@ module _ (v : StreamValue) (log : Journal) (by : ℕ) (show : Shows v log) where
         ap (λ b. b && is_listed log v.clock v.no other) (listed_is v log show sh)
         ∙ ap (λ b. is_listed_at (floor_of v.cut) (slice_get v.tree sh) && b) (listed_is v log show other)
 
-    -- If one of the two shards isn't listed, MergeShards is refused with `NoShard`.
     pub merge_unlisted : (is_listed_at (floor_of v.cut) (slice_get v.tree sh)
         && is_listed_at (floor_of v.cut) (slice_get v.tree other)) ≡ false
-        → merge log v.clock by v.no sh other ≡ Refused refusal.NoShard
+        → merge log v.clock actor v.no sh other ≡ Refused refusal.NoShard
     merge_unlisted h = refused_if _ _ _ (ap not (both_listed ∙ h))
 
     merge_listed : is_listed_at (floor_of v.cut) (slice_get v.tree sh) ≡ true
         → is_listed_at (floor_of v.cut) (slice_get v.tree other) ≡ true
-        → merge log v.clock by v.no sh other
+        → merge log v.clock actor v.no sh other
         ≡ (refuse refusal.ShardClosed if not (is_open_at (slice_get v.tree sh)
         && is_open_at (slice_get v.tree other)) else refuse refusal.NotAdjacent if not
         (are_adjacent (range_of (slice_get v.tree sh)) (range_of (slice_get v.tree other))) else merge_rest)
@@ -203,31 +184,26 @@ module _ (v : StreamValue) (log : Journal) (by : ℕ) (show : Shows v log) where
     made_both h g = and_from _ _ (there (floor_of v.cut) (slice_get v.tree sh) h)
         (there (floor_of v.cut) (slice_get v.tree other) g)
 
-    -- If the two shards are listed, and the shard tree refuses their merge with `r`, MergeShards is refused with `r`.
     pub merge_refused : (r : Refusal) → is_listed_at (floor_of v.cut) (slice_get v.tree sh) ≡ true
         → is_listed_at (floor_of v.cut) (slice_get v.tree other) ≡ true → Some r ≡ merge_refusal v.tree sh other
-        → merge log v.clock by v.no sh other ≡ Refused r
+        → merge log v.clock actor v.no sh other ≡ Refused r
     merge_refused r h g is =
         merge_listed h g ∙ merge_tests (is_some (slice_get v.tree sh) && is_some (slice_get v.tree other))
         _ _ r merge_rest (made_both h g) is
 
-    -- If the two shards are listed and the shard tree doesn't refuse their merge, but no sequence number is left,
-    -- MergeShards is refused with `Spent`.
     pub merge_spent : is_listed_at (floor_of v.cut) (slice_get v.tree sh) ≡ true
         → is_listed_at (floor_of v.cut) (slice_get v.tree other) ≡ true → None ≡ merge_refusal v.tree sh other
-        → v.next ≡ last_number → merge log v.clock by v.no sh other ≡ Refused refusal.Spent
+        → v.next ≡ last_number → merge log v.clock actor v.no sh other ≡ Refused refusal.Spent
     unfolding merge_rest
     merge_spent h g is spent =
         merge_listed h g ∙ merge_passes (is_some (slice_get v.tree sh) && is_some (slice_get v.tree other))
         _ _ merge_rest is
         ∙ refused_if _ _ _ (spent_next (nat_lt last_number (length (shards log v.no))) spent)
 
-    -- If the two shards are listed, the shard tree doesn't refuse their merge, a sequence number is left, and there are
-    -- fewer than 2^63 shards, MergeShards is accepted.
     pub merge_accepted : is_listed_at (floor_of v.cut) (slice_get v.tree sh) ≡ true
         → is_listed_at (floor_of v.cut) (slice_get v.tree other) ≡ true → None ≡ merge_refusal v.tree sh other
         → v.next ≢ last_number → length v.tree < 2 ^ 63
-        → merge log v.clock by v.no sh other ≡ Accepted (merge_line log v.clock by v.no sh other ∷ []) reply.Done
+        → merge log v.clock actor v.no sh other ≡ Accepted (merge_line log v.clock actor v.no sh other ∷ []) reply.Done
     unfolding merge_rest
     merge_accepted h g is free small =
         merge_listed h g ∙ merge_passes (is_some (slice_get v.tree sh) && is_some (slice_get v.tree other))

@@ -1,5 +1,4 @@
--- IncreaseStreamRetentionPeriod and DecreaseStreamRetentionPeriod: the call answers as the decision `keep` does, the
--- stream shows the journal with the decision's lines, and the stream keeps its invariant (`IsStream`).
+-- Changes of the retention: the answer, what the stream shows after them, and its invariant.
 use Rattle.std.proofs.Common.{◌≡◌, ℕ, ◌*◌, max, ◌≤◌, Bool, true, false, [], ◌∷◌, length, Option, refl, sym, ap, ◌∙◌}
 use Rattle.std.proofs.Common.{arith}
 use Rattle.std.specs.Prelude.{◌==◌, nat_lt, if◌then◌else◌, Ok, Err}
@@ -22,39 +21,36 @@ use Rattle.kds_stream.proofs.Rates.{rated_later}
 use Rattle.kds_stream.specs.Showing.{Shows}
 use Rattle.kds_stream.specs.Value.{IsStream, StreamValue, cut_at, later_cut}
 
--- The line by which the actor `by` changes the retention of the stream `v` to `wanted` hours.
+-- The line by which the actor `actor` changes the stream's retention to `wanted` hours.
 abbrev pub kept_line : StreamValue → ℕ → ℕ → Line
-kept_line v by wanted = plain_line v.clock by (entry.Kept v.no wanted)
+kept_line v actor wanted = plain_line v.clock actor (entry.Kept v.no wanted)
 
-module _ (v : StreamValue) (log : Journal) (by wanted : ℕ) (raise : Bool) (shown : Shows v log) where
-  -- The decision's test on the retention by the journal has the same result `b` as the code's test on the stream's
-  -- retention.
+module _ (v : StreamValue) (log : Journal) (actor wanted : ℕ) (raise : Bool) (shown : Shows v log) where
   tested : (b : Bool) → b ≡ (if raise then nat_lt wanted v.hours else nat_lt v.hours wanted)
       → (if raise then nat_lt wanted (hours log v.no) else nat_lt (hours log v.no) wanted) ≡ b
   tested b is = ap (λ n. if raise then nat_lt wanted n else nat_lt n wanted) shown.stored.hours_are ∙ sym is
 
-  -- If the retention is to be raised but would fall, or is to be lowered but would rise, the change is refused with
-  -- `BadRetention`. The stream shows the journal with the decision's lines, of which there are none.
+  -- A raise that would lower the retention, or a lowering that would raise it, is refused.
   pub keep_refused : true ≡ (if raise then nat_lt wanted v.hours else nat_lt v.hours wanted)
-      → (Err refusal.BadRetention ≡ answer_of (keep log v.clock by v.no wanted raise))
-      × Shows v (with_lines (lines_of (keep log v.clock by v.no wanted raise)) log)
+      → (Err refusal.BadRetention ≡ answer_of (keep log v.clock actor v.no wanted raise))
+      × Shows v (with_lines (lines_of (keep log v.clock actor v.no wanted raise)) log)
   keep_refused is = after_refused _ refusal.BadRetention log (λ l. Shows v l) (refused_if _ _ _ (tested true is)) shown
 
-  lasts : hours (kept_line v by wanted ∷ log) v.no ≡ wanted
+  lasts : hours (kept_line v actor wanted ∷ log) v.no ≡ wanted
   lasts = chosen (v.no == v.no) wanted (hours log v.no) (is_itself v.no)
 
-  floor_kept : trim_floor (kept_line v by wanted ∷ log) v.clock v.no
+  floor_kept : trim_floor (kept_line v actor wanted ∷ log) v.clock v.no
       ≡ floor_of (later_cut v.cut (cut_at v.clock wanted))
   floor_kept =
-      changed_floor log (kept_line v by wanted) v.no shown.stored.was shown.stored.was
-      ∙ ap (λ n. max n (floor_at v.clock (hours (kept_line v by wanted ∷ log) v.no * HOUR))) shown.stored.floor_is
+      changed_floor log (kept_line v actor wanted) v.no shown.stored.was shown.stored.was
+      ∙ ap (λ n. max n (floor_at v.clock (hours (kept_line v actor wanted ∷ log) v.no * HOUR))) shown.stored.floor_is
       ∙ ap (λ h. max (floor_of v.cut) (floor_at v.clock (h * HOUR))) lasts
       ∙ ap (λ n. max (floor_of v.cut) n) (sym (cut_floor v.clock wanted))
       ∙ sym (later_floor v.cut (cut_at v.clock wanted))
 
   shows_kept : (cut : Option ℕ) → cut ≡ later_cut v.cut (cut_at v.clock wanted)
       → Shows (record v { hours = wanted; cut = cut; clock_before = v.clock; cut_before = cut })
-      (kept_line v by wanted ∷ log)
+      (kept_line v actor wanted ∷ log)
   shows_kept cut is =
       let higher : floor_of v.cut ≤ floor_of cut =
       omega (arith, ap floor_of is, later_floor v.cut (cut_at v.clock wanted)) in
@@ -69,7 +65,7 @@ module _ (v : StreamValue) (log : Journal) (by wanted : ℕ) (raise : Bool) (sho
           next_is = omega (arith, shown.stored.next_is);
           floor_is = floor_kept ∙ ap floor_of (sym is);
           kept =
-              kept_along (floor_of cut) log (kept_line v by wanted ∷ log) v.no 0 v.logs (λ sh. refl)
+              kept_along (floor_of cut) log (kept_line v actor wanted ∷ log) v.no 0 v.logs (λ sh. refl)
               (kept_higher (floor_of v.cut) (floor_of cut) log v.no 0 v.logs higher shown.stored.kept);
           none_beyond = shown.stored.none_beyond;
         };
@@ -80,21 +76,17 @@ module _ (v : StreamValue) (log : Journal) (by wanted : ℕ) (raise : Bool) (sho
         };
       }
 
-  -- If the retention may be changed, the decision answers `Done`. Let the stream get the new retention and the cut
-  -- `cut`, which is the later one of its old cut and the cut by the new retention. Then it shows the journal with the
-  -- decision's line.
+  -- A change of the retention answers `Done`, and with the later cut the stream shows its line.
   pub keep_done : (cut : Option ℕ) → cut ≡ later_cut v.cut (cut_at v.clock wanted)
       → false ≡ (if raise then nat_lt wanted v.hours else nat_lt v.hours wanted)
-      → (Ok reply.Done ≡ answer_of (keep log v.clock by v.no wanted raise))
+      → (Ok reply.Done ≡ answer_of (keep log v.clock actor v.no wanted raise))
       × Shows (record v { hours = wanted; cut = cut; clock_before = v.clock; cut_before = cut })
-      (with_lines (lines_of (keep log v.clock by v.no wanted raise)) log)
+      (with_lines (lines_of (keep log v.clock actor v.no wanted raise)) log)
   keep_done cut later is =
-      after_accepted _ (kept_line v by wanted ∷ []) reply.Done log
+      after_accepted _ (kept_line v actor wanted ∷ []) reply.Done log
       (λ l. Shows (record v { hours = wanted; cut = cut; clock_before = v.clock; cut_before = cut }) l)
       (passed_if _ _ _ (tested false is)) (shows_kept cut later)
 
--- A stream keeps its invariant (`IsStream`) after its retention becomes `wanted` hours. Its cut becomes `cut`, the
--- later one of its old cut and the cut by the new retention.
 pub stream_kept : (v : StreamValue) (wanted : ℕ) (cut : Option ℕ) → cut ≡ later_cut v.cut (cut_at v.clock wanted)
     → IsRetention wanted → IsStream v
     → IsStream (record v { hours = wanted; cut = cut; clock_before = v.clock; cut_before = cut })

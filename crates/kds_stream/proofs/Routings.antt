@@ -1,7 +1,4 @@
--- PutRecords: the call answers as the decision `put_many` does, the stream shows the journal with the decision's lines,
--- and the stream keeps its invariant (`IsStream`). An item is held back if it is throttled, and taken otherwise. The
--- puts of the shards are given by a function `f` from the number of a shard to its puts. A retreat sets a stream's
--- clock and cut back to `clock_before` and `cut_before`.
+-- PutRecords: its answer, what the stream shows after it, and its invariant.
 use Rattle.std.proofs.Common.{◌≡◌, ◌≢◌, ℕ, suc, ◌+◌, ◌^◌, ◌<◌, ◌≤◌, Bool, true, false, List, [], ◌∷◌, length, refl, sym}
 use Rattle.std.proofs.Common.{ap, subst, ◌∙◌, arith}
 use Rattle.std.specs.Prelude.{◌==◌, nat_lt, if◌then◌else◌, Ok, Err}
@@ -46,54 +43,47 @@ use Rattle.kds_stream_logs.proofs.Routings.{IsFrom, all_from, apart, turns}
 
 -- ---- The records of the items that are taken
 
--- The items that are taken from `item ∷ items`: the item `item`, unless it is held back (`b` is true), and the items
--- that are taken from `items` after it.
-taken_at : (xs : List ShardState) (c : ℕ) (on : Bool) (f : ℕ → List SizedPut) (item : NewItem) (items : List NewItem)
-    (b : Bool) → is_throttled_item xs c on f item ≡ b
-    → taken xs c on f (item ∷ items)
-    ≡ (if b then taken xs c on (after_item xs c f item b) items else item
-    ∷ taken xs c on (after_item xs c f item b) items)
-taken_at xs c on f item items b is =
-    ap (λ d. if d then taken xs c on (after_item xs c f item d) items else item
-    ∷ taken xs c on (after_item xs c f item d) items) is
+taken_at : (xs : List ShardState) (c : ℕ) (is_on : Bool) (f : ℕ → List SizedPut) (item : NewItem) (items : List NewItem)
+    (b : Bool) → is_throttled_item xs c is_on f item ≡ b
+    → taken xs c is_on f (item ∷ items)
+    ≡ (if b then taken xs c is_on (after_item xs c f item b) items else item
+    ∷ taken xs c is_on (after_item xs c f item b) items)
+taken_at xs c is_on f item items b is =
+    ap (λ d. if d then taken xs c is_on (after_item xs c f item d) items else item
+    ∷ taken xs c is_on (after_item xs c f item d) items) is
 
-after_at : (xs : List ShardState) (c : ℕ) (on : Bool) (f : ℕ → List SizedPut) (item : NewItem) (items : List NewItem)
-    (b : Bool) (sh : ℕ) → is_throttled_item xs c on f item ≡ b
-    → after_items xs c on f (item ∷ items) sh ≡ after_items xs c on (after_item xs c f item b) items sh
-after_at xs c on f item items b sh is = ap (λ d. after_items xs c on (after_item xs c f item d) items sh) is
+after_at : (xs : List ShardState) (c : ℕ) (is_on : Bool) (f : ℕ → List SizedPut) (item : NewItem) (items : List NewItem)
+    (b : Bool) (sh : ℕ) → is_throttled_item xs c is_on f item ≡ b
+    → after_items xs c is_on f (item ∷ items) sh ≡ after_items xs c is_on (after_item xs c f item b) items sh
+after_at xs c is_on f item items b sh is = ap (λ d. after_items xs c is_on (after_item xs c f item d) items sh) is
 
-outcomes_at : (xs : List ShardState) (c : ℕ) (on : Bool) (f : ℕ → List SizedPut) (n : ℕ) (item : NewItem)
-    (items : List NewItem) (b : Bool) → is_throttled_item xs c on f item ≡ b
-    → outcomes xs c on f n (item ∷ items) ≡ outcome_of xs n item b
-    ∷ outcomes xs c on (after_item xs c f item b) (after_number n b) items
-outcomes_at xs c on f n item items b is =
-    ap (λ d. outcome_of xs n item d ∷ outcomes xs c on (after_item xs c f item d) (after_number n d) items) is
+outcomes_at : (xs : List ShardState) (c : ℕ) (is_on : Bool) (f : ℕ → List SizedPut) (n : ℕ) (item : NewItem)
+    (items : List NewItem) (b : Bool) → is_throttled_item xs c is_on f item ≡ b
+    → outcomes xs c is_on f n (item ∷ items) ≡ outcome_of xs n item b
+    ∷ outcomes xs c is_on (after_item xs c f item b) (after_number n b) items
+outcomes_at xs c is_on f n item items b is =
+    ap (λ d. outcome_of xs n item d ∷ outcomes xs c is_on (after_item xs c f item d) (after_number n d) items) is
 
--- The logs of a stream can take the records of items that are routed to the stream's shards: the sequence numbers and
--- times of arrival of these records aren't below those in the logs (`CanTake`).
 pub can_take : (v : StreamValue) (items : List NewItem) (rs : List Routed) → IsStream v
     → rs ≡ routed_items v.tree v.clock v.next items → AllByRecursion (IsWithin (length v.tree)) rs
     → AllByRecursion (CanTake v.logs) rs
 can_take v items rs is are within =
-    let from : AllByRecursion (IsFrom v.next v.clock) rs =
+    let is_from : AllByRecursion (IsFrom v.next v.clock) rs =
     subst (AllByRecursion (IsFrom v.next v.clock)) (sym are)
     (all_from v.tree v.clock v.next v.next items (omega arith)) in
     all_both (IsWithin (length v.tree)) (IsFrom v.next v.clock) (CanTake v.logs) (λ r inside f. record {
       within = omega (arith, inside, is.as_many);
       number = below_higher v.next r.item.seq v.logs f.number is.numbers;
       arrival = arrived_later v.clock_before r.item.arrival v.logs (omega (arith, is.order, f.arrival)) is.arrivals;
-    }) rs within from
+    }) rs within is_from
 
--- The records of items that get consecutive sequence numbers are in order, each before all later ones
--- (`AreRoutedInOrder`).
 pub in_order : (v : StreamValue) (items : List NewItem) (rs : List Routed)
     → rs ≡ routed_items v.tree v.clock v.next items → AreRoutedInOrder rs
 in_order v items rs are = subst AreRoutedInOrder (sym are) (turns v.tree v.clock v.next items)
 
 -- ---- What the stream shows after the puts
 
--- The stream `v` with the logs `ls`, the windows `ws` and the next sequence number `next`. A retreat goes back to the
--- present clock and cut.
+-- The stream with other logs, windows and next number; a retreat goes back to the present clock and cut.
 abbrev pub with_logs : StreamValue → List LogValue → List WindowValue → ℕ → StreamValue
 with_logs v ls ws next = record v { logs = ls; windows = ws; next = next; clock_before = v.clock; cut_before = v.cut }
 
@@ -102,7 +92,6 @@ shows_none : (v : StreamValue) (next : ℕ) (log : Journal) → next ≡ v.next 
 shows_none v next log is shown =
     subst (λ n. ShowsStored (record v { next = n; clock_before = v.clock; cut_before = v.cut }) log) (sym is) shown
 
--- The stream `v` after a put of `item`, but still with the windows before the put.
 after_one : StreamValue → NewItem → StreamValue
 after_one v item = record v {
   logs = with_appended (home_among (filter is_open v.tree) item.hash) (put_record v item)
@@ -112,37 +101,33 @@ after_one v item = record v {
   cut_before = v.cut;
 }
 
--- The lines of a PutRecords for `item ∷ items`: the line of `item`, unless it is held back (`b` is true), and the lines
--- of `items` after it.
-lines_at : (log : Journal) (c by s : ℕ) (item : NewItem) (items : List NewItem) (b : Bool)
+lines_at : (log : Journal) (c actor s : ℕ) (item : NewItem) (items : List NewItem) (b : Bool)
     → is_held_back log c s item ≡ b
-    → put_lines log c by s (item ∷ items)
-    ≡ (if b then put_lines log c by s items else put_line log c by s (next_number log s) item
-    ∷ put_lines (put_line log c by s (next_number log s) item ∷ log) c by s items)
-lines_at log c by s item items b is =
-    ap (λ d. if d then put_lines log c by s items else put_line log c by s (next_number log s) item
-    ∷ put_lines (put_line log c by s (next_number log s) item ∷ log) c by s items) is
+    → put_lines log c actor s (item ∷ items)
+    ≡ (if b then put_lines log c actor s items else put_line log c actor s (next_number log s) item
+    ∷ put_lines (put_line log c actor s (next_number log s) item ∷ log) c actor s items)
+lines_at log c actor s item items b is =
+    ap (λ d. if d then put_lines log c actor s items else put_line log c actor s (next_number log s) item
+    ∷ put_lines (put_line log c actor s (next_number log s) item ∷ log) c actor s items) is
 
-told_at : (log : Journal) (c by s : ℕ) (item : NewItem) (items : List NewItem) (b : Bool)
+told_at : (log : Journal) (c actor s : ℕ) (item : NewItem) (items : List NewItem) (b : Bool)
     → is_held_back log c s item ≡ b
-    → put_outcomes log c by s (item ∷ items)
+    → put_outcomes log c actor s (item ∷ items)
     ≡ (if b then outcome.Throttled (home log s item.hash)
-    ∷ put_outcomes log c by s items else outcome.Stored (put_place log s (next_number log s) item)
-    ∷ put_outcomes (put_line log c by s (next_number log s) item ∷ log) c by s items)
-told_at log c by s item items b is =
+    ∷ put_outcomes log c actor s items else outcome.Stored (put_place log s (next_number log s) item)
+    ∷ put_outcomes (put_line log c actor s (next_number log s) item ∷ log) c actor s items)
+told_at log c actor s item items b is =
     ap (λ d. if d then outcome.Throttled (home log s item.hash)
-    ∷ put_outcomes log c by s items else outcome.Stored (put_place log s (next_number log s) item)
-    ∷ put_outcomes (put_line log c by s (next_number log s) item ∷ log) c by s items) is
+    ∷ put_outcomes log c actor s items else outcome.Stored (put_place log s (next_number log s) item)
+    ∷ put_outcomes (put_line log c actor s (next_number log s) item ∷ log) c actor s items) is
 
--- Let `f` give the puts of the shards by the journal `log`. If `item` isn't held back, `after_item` gives the puts by
--- the journal with the line of `item`.
-puts_stay : (v : StreamValue) (log : Journal) (by : ℕ) (item : NewItem) (f : ℕ → List SizedPut)
+puts_stay : (v : StreamValue) (log : Journal) (actor : ℕ) (item : NewItem) (f : ℕ → List SizedPut)
     → shards log v.no ≡ v.tree → ((n : ℕ) → f n ≡ puts log v.no n)
     → (n : ℕ) → after_item v.tree v.clock f item false n
-    ≡ puts (put_line log v.clock by v.no (next_number log v.no) item ∷ log) v.no n
-puts_stay v log by item f shards_are same n =
+    ≡ puts (put_line log v.clock actor v.no (next_number log v.no) item ∷ log) v.no n
+puts_stay v log actor item f shards_are same n =
     ap (λ ps. if home_among (filter is_open v.tree) item.hash == n then put_of v item ∷ ps else ps) (same n)
-    ∙ sym (puts_more v log by (next_number log v.no) item shards_are n)
+    ∙ sym (puts_more v log actor (next_number log v.no) item shards_are n)
 
 judged : (v : StreamValue) (log : Journal) (item : NewItem) (f : ℕ → List SizedPut) → shards log v.no ≡ v.tree
     → is_enforced log v.no ≡ v.enforced → ((n : ℕ) → f n ≡ puts log v.no n)
@@ -152,64 +137,59 @@ judged v log item f shards_are enforces same =
     (f (home_among (filter is_open v.tree) item.hash)) shards_are enforces refl refl
     (same (home_among (filter is_open v.tree) item.hash))
 
--- By the journal, a PutRecords for `items` adds as many lines as the stream takes items. Its outcomes are those that
--- the stream computes from the puts `f` and the next sequence number `n` (`outcomes`).
-pub record Told (v : StreamValue) (log : Journal) (by n : ℕ) (f : ℕ → List SizedPut) (items : List NewItem) :
+-- The journal's PutRecords has the stream's outcomes, and a line for each item taken.
+pub record Told (v : StreamValue) (log : Journal) (actor n : ℕ) (f : ℕ → List SizedPut) (items : List NewItem) :
     Type 0 where
-  pub many : length (put_lines log v.clock by v.no items) ≡ length (taken v.tree v.clock v.enforced f items)
-  pub so : put_outcomes log v.clock by v.no items ≡ outcomes v.tree v.clock v.enforced f n items
+  pub many : length (put_lines log v.clock actor v.no items) ≡ length (taken v.tree v.clock v.enforced f items)
+  pub so : put_outcomes log v.clock actor v.no items ≡ outcomes v.tree v.clock v.enforced f n items
 
--- Let the stream's shards and limits, the number `n` and the puts `f` be those of the journal. Then a PutRecords for
--- `items` adds a line for each item that is taken, and has the computed outcomes (`Told`).
-pub puts_told : (items : List NewItem) (v : StreamValue) (log : Journal) (by n : ℕ) (f : ℕ → List SizedPut)
+pub puts_told : (items : List NewItem) (v : StreamValue) (log : Journal) (actor n : ℕ) (f : ℕ → List SizedPut)
     → shards log v.no ≡ v.tree → is_enforced log v.no ≡ v.enforced → next_number log v.no ≡ n
-    → ((m : ℕ) → f m ≡ puts log v.no m) → Told v log by n f items
-puts_told [] v log by n f shards_are enforces number same = record { many = refl; so = refl }
-puts_told (item ∷ items) v log by n f shards_are enforces number same =
+    → ((m : ℕ) → f m ≡ puts log v.no m) → Told v log actor n f items
+puts_told [] v log actor n f shards_are enforces number same = record { many = refl; so = refl }
+puts_told (item ∷ items) v log actor n f shards_are enforces number same =
     by_held (is_throttled_item v.tree v.clock v.enforced f item) refl
-    (puts_told items v log by n f shards_are enforces number same)
-    (puts_told items v (put_line log v.clock by v.no (next_number log v.no) item ∷ log) by (n + 1)
+    (puts_told items v log actor n f shards_are enforces number same)
+    (puts_told items v (put_line log v.clock actor v.no (next_number log v.no) item ∷ log) actor (n + 1)
     (after_item v.tree v.clock f item false) shards_are enforces
     (one_more (v.no == v.no) (next_number log v.no) n (is_equal v.no v.no refl) number)
-    (puts_stay v log by item f shards_are same))
+    (puts_stay v log actor item f shards_are same))
   where
-    by_held : (b : Bool) → is_throttled_item v.tree v.clock v.enforced f item ≡ b → Told v log by n f items
-        → Told v (put_line log v.clock by v.no (next_number log v.no) item ∷ log) by (n + 1)
+    by_held : (b : Bool) → is_throttled_item v.tree v.clock v.enforced f item ≡ b → Told v log actor n f items
+        → Told v (put_line log v.clock actor v.no (next_number log v.no) item ∷ log) actor (n + 1)
         (after_item v.tree v.clock f item false) items
-        → Told v log by n f (item ∷ items)
+        → Told v log actor n f (item ∷ items)
     by_held true is rest other =
         let held : is_held_back log v.clock v.no item ≡ true = judged v log item f shards_are enforces same ∙ is in
-        let home_is = home_so v log by 0 item shards_are in
+        let home_is = home_so v log actor 0 item shards_are in
         record {
-          many = ap length (lines_at log v.clock by v.no item items true held) ∙ rest.many
+          many = ap length (lines_at log v.clock actor v.no item items true held) ∙ rest.many
               ∙ ap length (sym (taken_at v.tree v.clock v.enforced f item items true is));
           so =
-              told_at log v.clock by v.no item items true held
-              ∙ ap (λ h. outcome.Throttled h ∷ put_outcomes log v.clock by v.no items) home_is
+              told_at log v.clock actor v.no item items true held
+              ∙ ap (λ h. outcome.Throttled h ∷ put_outcomes log v.clock actor v.no items) home_is
               ∙ ap (λ os. outcome.Throttled (home_among (filter is_open v.tree) item.hash) ∷ os) rest.so
               ∙ sym (outcomes_at v.tree v.clock v.enforced f n item items true is);
         }
     by_held false is other rest =
         let held : is_held_back log v.clock v.no item ≡ false = judged v log item f shards_are enforces same ∙ is in
-        let line : Line = put_line log v.clock by v.no (next_number log v.no) item in
-        let home_is = home_so v log by 0 item shards_are in
+        let line : Line = put_line log v.clock actor v.no (next_number log v.no) item in
+        let home_is = home_so v log actor 0 item shards_are in
         record {
-          many = ap length (lines_at log v.clock by v.no item items false held) ∙ ap suc rest.many
+          many = ap length (lines_at log v.clock actor v.no item items false held) ∙ ap suc rest.many
               ∙ ap length (sym (taken_at v.tree v.clock v.enforced f item items false is));
           so =
-              told_at log v.clock by v.no item items false held
+              told_at log v.clock actor v.no item items false held
               ∙ ap (λ h. let p : Place = record { shard = h; seq = next_number log v.no } in
-              outcome.Stored p ∷ put_outcomes (line ∷ log) v.clock by v.no items) home_is
+              outcome.Stored p ∷ put_outcomes (line ∷ log) v.clock actor v.no items) home_is
               ∙ ap (λ m. let p : Place = record { shard = home_among (filter is_open v.tree) item.hash; seq = m } in
-              outcome.Stored p ∷ put_outcomes (line ∷ log) v.clock by v.no items) number
+              outcome.Stored p ∷ put_outcomes (line ∷ log) v.clock actor v.no items) number
               ∙ ap (λ os. outcome_of v.tree n item false ∷ os) rest.so
               ∙ sym (outcomes_at v.tree v.clock v.enforced f n item items false is);
         }
 
--- What the stream shows after a PutRecords for `items`, if the puts before these items are `f`. With the taken records
--- in its logs, the stream shows the journal with the lines of the items, without regard to throughput (`ShowsStored`).
--- Windows that stand for the puts after the items fit this journal (`ShowsRates`).
-pub record Stores (v : StreamValue) (log : Journal) (by : ℕ) (f : ℕ → List SizedPut) (items : List NewItem) :
+-- With the taken records and their windows, the stream shows the journal with the lines of PutRecords.
+pub record Stores (v : StreamValue) (log : Journal) (actor : ℕ) (f : ℕ → List SizedPut) (items : List NewItem) :
     Type 0 where
   pub stored : (next : ℕ) → next ≡ v.next + length (taken v.tree v.clock v.enforced f items)
       → ShowsStored (record
@@ -219,21 +199,18 @@ pub record Stores (v : StreamValue) (log : Journal) (by : ℕ) (f : ℕ → List
         clock_before = v.clock;
         cut_before = v.cut;
       })
-      (with_lines (put_lines log v.clock by v.no items) log)
+      (with_lines (put_lines log v.clock actor v.no items) log)
   pub rates : (ws : List WindowValue) → StandFor (after_items v.tree v.clock v.enforced f items) 0 ws
-      → ShowsRates (with_lines (put_lines log v.clock by v.no items) log) v.no v.enforced (length v.tree) ws
+      → ShowsRates (with_lines (put_lines log v.clock actor v.no items) log) v.no v.enforced (length v.tree) ws
 
--- Suppose that the stream shows the journal without regard to throughput, and that its limits and the puts `f` are
--- those of the journal. Then the stream with the taken records shows the journal with the lines of the items
--- (`Stores`).
-pub shows_puts : (items : List NewItem) (v : StreamValue) (log : Journal) (by : ℕ) (f : ℕ → List SizedPut)
+pub shows_puts : (items : List NewItem) (v : StreamValue) (log : Journal) (actor : ℕ) (f : ℕ → List SizedPut)
     → is_enforced log v.no ≡ v.enforced → ((n : ℕ) → f n ≡ puts log v.no n)
     → ((sh : ℕ) → length v.tree ≤ sh → f sh ≡ [])
     → AllByRecursion (IsWithin (length v.tree))
     (routed_items v.tree v.clock v.next (taken v.tree v.clock v.enforced f items)) → floor_of v.cut ≤ v.clock
-    → ShowsStored v log → Stores v log by f items
+    → ShowsStored v log → Stores v log actor f items
 unfolding after_one
-shows_puts [] v log by f enforces same none within trims shown = record {
+shows_puts [] v log actor f enforces same none within trims shown = record {
   stored = λ next drawn. shows_none v next log (omega arith) shown;
   rates = λ ws stand. record {
     enforced_is = enforces;
@@ -241,29 +218,30 @@ shows_puts [] v log by f enforces same none within trims shown = record {
     none_beyond = λ sh beyond. sym (same sh) ∙ none sh beyond;
   };
 }
-shows_puts (item ∷ items) v log by f enforces same none within trims shown =
+shows_puts (item ∷ items) v log actor f enforces same none within trims shown =
     by_held (is_throttled_item v.tree v.clock v.enforced f item) refl
-    (λ inside. shows_puts items v log by f enforces same none inside trims shown)
-    (λ none' inside one. shows_puts items (after_one v item) (put_line log v.clock by v.no (next_number log v.no) item
-    ∷ log) by (after_item v.tree v.clock f item false) enforces
-    (puts_stay v log by item f shown.shards_are same) none' inside trims one)
+    (λ inside. shows_puts items v log actor f enforces same none inside trims shown)
+    (λ none' inside one. shows_puts items (after_one v item)
+    (put_line log v.clock actor v.no (next_number log v.no) item
+    ∷ log) actor (after_item v.tree v.clock f item false) enforces
+    (puts_stay v log actor item f shown.shards_are same) none' inside trims one)
   where
     by_held : (b : Bool) → is_throttled_item v.tree v.clock v.enforced f item ≡ b
         → (AllByRecursion (IsWithin (length v.tree))
-        (routed_items v.tree v.clock v.next (taken v.tree v.clock v.enforced f items)) → Stores v log by f items)
+        (routed_items v.tree v.clock v.next (taken v.tree v.clock v.enforced f items)) → Stores v log actor f items)
         → (((sh : ℕ) → length v.tree ≤ sh → after_item v.tree v.clock f item false sh ≡ [])
         → AllByRecursion (IsWithin (length v.tree))
         (routed_items v.tree v.clock (v.next + 1)
         (taken v.tree v.clock v.enforced (after_item v.tree v.clock f item false) items))
-        → ShowsStored (after_one v item) (put_line log v.clock by v.no (next_number log v.no) item ∷ log)
-        → Stores (after_one v item) (put_line log v.clock by v.no (next_number log v.no) item ∷ log) by
+        → ShowsStored (after_one v item) (put_line log v.clock actor v.no (next_number log v.no) item ∷ log)
+        → Stores (after_one v item) (put_line log v.clock actor v.no (next_number log v.no) item ∷ log) actor
         (after_item v.tree v.clock f item false) items)
-        → Stores v log by f (item ∷ items)
+        → Stores v log actor f (item ∷ items)
     by_held true is on_held on_taken =
         let held : is_held_back log v.clock v.no item ≡ true = judged v log item f shown.shards_are enforces same
         ∙ is in
         let ts = taken_at v.tree v.clock v.enforced f item items true is in
-        let ls = lines_at log v.clock by v.no item items true held in
+        let ls = lines_at log v.clock actor v.no item items true held in
         let rest = on_held (subst
         (λ us. AllByRecursion (IsWithin (length v.tree)) (routed_items v.tree v.clock v.next us)) ts within) in
         record {
@@ -274,7 +252,7 @@ shows_puts (item ∷ items) v log by f enforces same none within trims shown =
                 clock_before = v.clock;
                 cut_before = v.cut;
               })
-              (with_lines (put_lines log v.clock by v.no (item ∷ items)) log)) (sym ts)
+              (with_lines (put_lines log v.clock actor v.no (item ∷ items)) log)) (sym ts)
               (subst (λ us. ShowsStored
               (record v {
                 logs = with_each
@@ -294,13 +272,13 @@ shows_puts (item ∷ items) v log by f enforces same none within trims shown =
     by_held false is on_held on_taken =
         let held : is_held_back log v.clock v.no item ≡ false = judged v log item f shown.shards_are enforces same
         ∙ is in
-        let line : Line = put_line log v.clock by v.no (next_number log v.no) item in
+        let line : Line = put_line log v.clock actor v.no (next_number log v.no) item in
         let g : ℕ → List SizedPut = after_item v.tree v.clock f item false in
         let ts = taken_at v.tree v.clock v.enforced f item items false is in
-        let ls = lines_at log v.clock by v.no item items false held in
+        let ls = lines_at log v.clock actor v.no item items false held in
         let inside = subst (λ us. AllByRecursion (IsWithin (length v.tree)) (routed_items v.tree v.clock v.next us))
         ts within in
-        let one = shows_put v log by item shown (home_among (filter is_open v.tree) item.hash) refl inside.0 trims in
+        let one = shows_put v log actor item shown (home_among (filter is_open v.tree) item.hash) refl inside.0 trims in
         let rest = on_taken (λ sh beyond.
         sym (put_elsewhere (home_among (filter is_open v.tree) item.hash) sh (put_of v item) f
         (is_other _ sh (λ e. absurd (apart _ sh (length v.tree) inside.0 beyond e)))) ∙ none sh beyond)
@@ -315,7 +293,7 @@ shows_puts (item ∷ items) v log by f enforces same none within trims shown =
                 clock_before = v.clock;
                 cut_before = v.cut;
               })
-              (with_lines (put_lines log v.clock by v.no (item ∷ items)) log)) (sym ts)
+              (with_lines (put_lines log v.clock actor v.no (item ∷ items)) log)) (sym ts)
               (subst (λ us. ShowsStored
               (record v {
                 logs = with_each
@@ -334,8 +312,6 @@ shows_puts (item ∷ items) v log by f enforces same none within trims shown =
 
 -- ---- The invariant of the stream
 
--- A stream keeps its invariant (`IsStream`) if its windows are replaced by others that fit its shards and its clock
--- (`AreRated`).
 pub stream_same : (v : StreamValue) (windows : List WindowValue) (next : ℕ) → next ≡ v.next
     → AreRated v.clock (length v.tree) windows → IsStream v
     → IsStream (record v { windows = windows; next = next; clock_before = v.clock; cut_before = v.cut })
@@ -357,8 +333,6 @@ stream_same v windows next same rated is = record {
 number_free : (n m k : ℕ) → m ≡ n + suc k → m < 2 ^ 64 → n ≢ last_number
 number_free n m k is fits e = absurd (omega arith)
 
--- Let the records of `items` be added to the logs of their homes, and let the next sequence number rise by the number
--- of the items and stay below 2^64. Then a stream keeps its invariant (`IsStream`).
 pub stream_puts : (items : List NewItem) (v : StreamValue) (next : ℕ) → next ≡ v.next + length items → next < 2 ^ 64
     → IsStream v
     → IsStream (record v {
@@ -385,40 +359,38 @@ is_past n h = grind (arith, nat_tests, h)
 is_not_past : (n : ℕ) → n < 2 ^ 64 → nat_lt last_number n ≡ false
 is_not_past n h = grind (arith, nat_tests, h)
 
-module _ (v : StreamValue) (log : Journal) (by : ℕ) (items : List NewItem) (shown : Shows v log) where
-  told : Told v log by v.next (puts log v.no) items
-  told = puts_told items v log by v.next (puts log v.no) shown.stored.shards_are shown.rates.enforced_is
+module _ (v : StreamValue) (log : Journal) (actor : ℕ) (items : List NewItem) (shown : Shows v log) where
+  told : Told v log actor v.next (puts log v.no) items
+  told = puts_told items v log actor v.next (puts log v.no) shown.stored.shards_are shown.rates.enforced_is
       shown.stored.next_is (λ m. refl)
 
-  -- If there aren't enough sequence numbers for the items that are taken, PutRecords is refused with `Spent`. The
-  -- stream shows the journal with the decision's lines, of which there are none.
+  -- PutRecords is refused with `Spent` if the sequence numbers don't suffice for the items taken.
   pub puts_spent : 2 ^ 64 ≤ v.next + length (taken v.tree v.clock v.enforced (puts log v.no) items)
-      → (Err refusal.Spent ≡ answer_of (put_many log v.clock by v.no items))
-      × Shows v (with_lines (lines_of (put_many log v.clock by v.no items)) log)
+      → (Err refusal.Spent ≡ answer_of (put_many log v.clock actor v.no items))
+      × Shows v (with_lines (lines_of (put_many log v.clock actor v.no items)) log)
   puts_spent spent =
       after_refused _ refusal.Spent log (λ l. Shows v l)
-      (refused_if _ _ _ (ap (λ n. nat_lt last_number (n + length (put_lines log v.clock by v.no items)))
+      (refused_if _ _ _ (ap (λ n. nat_lt last_number (n + length (put_lines log v.clock actor v.no items)))
       shown.stored.next_is
       ∙ ap (λ n. nat_lt last_number (v.next + n)) told.many
       ∙ is_past (v.next + length (taken v.tree v.clock v.enforced (puts log v.no) items)) spent)) shown
 
-  -- Suppose that there are enough sequence numbers for the items that are taken, and that `r` has the records and
-  -- outcomes of the items (`AreRouted`). Then PutRecords answers with these outcomes. The stream with these records in
-  -- its logs and with `windows` shows the journal with the decision's lines.
+  -- PutRecords answers with the outcomes, and with the records in its logs the stream shows its lines.
   pub puts_done : (r : Routes) (logs : List LogValue) (windows : List WindowValue) → r.next < 2 ^ 64
       → floor_of v.cut ≤ v.clock → AreRouted v.tree v.clock v.enforced (puts log v.no) v.next items r windows
       → AllByRecursion (IsWithin (length v.tree)) r.routed.items → logs ≡ with_each r.routed.items v.logs
-      → (Ok (reply.PutMany r.outcomes) ≡ answer_of (put_many log v.clock by v.no items))
+      → (Ok (reply.PutMany r.outcomes) ≡ answer_of (put_many log v.clock actor v.no items))
       × Shows (record v { logs = logs; windows = windows; next = r.next; clock_before = v.clock; cut_before = v.cut })
-      (with_lines (lines_of (put_many log v.clock by v.no items)) log)
+      (with_lines (lines_of (put_many log v.clock actor v.no items)) log)
   puts_done r logs windows fits trims made within stored =
       let w : StreamValue =
       record v { logs = logs; windows = windows; next = r.next; clock_before = v.clock; cut_before = v.cut } in
-      let lines = put_lines log v.clock by v.no items in
+      let lines = put_lines log v.clock actor v.no items in
       let ts = taken v.tree v.clock v.enforced (puts log v.no) items in
       let inside : AllByRecursion (IsWithin (length v.tree)) (routed_items v.tree v.clock v.next ts) =
       subst (AllByRecursion (IsWithin (length v.tree))) made.routed within in
-      let after = shows_puts items v log by (puts log v.no) shown.rates.enforced_is (λ m. refl) shown.rates.none_beyond
+      let after = shows_puts items v log actor (puts log v.no) shown.rates.enforced_is (λ m. refl)
+      shown.rates.none_beyond
       inside trims shown.stored in
       let full : Shows (with_logs v (with_each (routed_items v.tree v.clock v.next ts) v.logs) windows r.next)
       (with_lines lines log) =
@@ -427,8 +399,8 @@ module _ (v : StreamValue) (log : Journal) (by : ℕ) (items : List NewItem) (sh
       subst (λ (ls : List LogValue).
       Shows (record v { logs = ls; windows = windows; next = r.next; clock_before = v.clock; cut_before = v.cut })
       (with_lines lines log)) (sym (stored ∙ ap (λ (qs : List Routed). with_each qs v.logs) made.routed)) full in
-      let both = after_accepted (put_many log v.clock by v.no items) lines
-      (reply.PutMany (put_outcomes log v.clock by v.no items)) log (λ l. Shows w l)
+      let both = after_accepted (put_many log v.clock actor v.no items) lines
+      (reply.PutMany (put_outcomes log v.clock actor v.no items)) log (λ l. Shows w l)
       (passed_if _ _ _ (ap (λ n. nat_lt last_number (n + length lines)) shown.stored.next_is
       ∙ ap (λ n. nat_lt last_number (v.next + n)) told.many
       ∙ is_not_past (v.next + length ts) (omega (arith, made.next_is, fits)))) shows in
@@ -436,8 +408,6 @@ module _ (v : StreamValue) (log : Journal) (by : ℕ) (items : List NewItem) (sh
 
 -- ---- The logs that got records lose their trimmed records
 
--- A stream keeps its invariant (`IsStream`) after the logs of the shards in the places `ps` have lost their trimmed
--- records.
 pub stream_each : (v : StreamValue) (ws : List WindowValue) (next : ℕ) (ps : List Place) (ls : List LogValue)
     → IsStream (with_logs v ls ws next) → IsStream (with_logs v (settled_each (floor_of v.cut) ps ls) ws next)
 stream_each v ws next [] ls is = is
@@ -445,7 +415,6 @@ stream_each v ws next (p ∷ ps) ls is =
     stream_each v ws next ps (settled_at (floor_of v.cut) p.shard ls)
     (settled_stream (with_logs v ls ws next) p.shard v.next_to_settle is)
 
--- A stream still shows its journal after the logs of the shards in the places `ps` have lost their trimmed records.
 pub shows_each : (v : StreamValue) (ws : List WindowValue) (next : ℕ) (log : Journal) (ps : List Place)
     (ls : List LogValue) → Shows (with_logs v ls ws next) log
     → Shows (with_logs v (settled_each (floor_of v.cut) ps ls) ws next) log

@@ -1,6 +1,5 @@
--- UpdateShardCount: the call answers as the decision does, the stream shows the journal with the lines of all steps,
--- and the stream keeps its invariant (`IsStream`).
-use Rattle.std.proofs.Common.{◌≡◌, ℕ, zero, suc, ◌+◌, ◌-◌, ◌/◌, ◌^◌, ◌<◌, ◌≤◌, Bool, true, false, List, [], ◌∷◌, ◌++◌}
+-- UpdateShardCount: its answer, what the stream shows after it, and its invariant.
+use Rattle.std.proofs.Common.{◌≡◌, ℕ, suc, ◌+◌, ◌-◌, ◌/◌, ◌^◌, ◌<◌, ◌≤◌, Bool, true, false, List, [], ◌∷◌, ◌++◌}
 use Rattle.std.proofs.Common.{length, map, refl, sym, ap, subst, ◌∙◌, arith, length-append}
 use Rattle.std.specs.Prelude.{cond, nat_lt, not, ◌||◌, if◌then◌else◌, replicate, Ok, Err}
 use Rattle.std.proofs.lemmas.Bool.Decides.{nat_tests}
@@ -17,10 +16,9 @@ use Rattle.kds_defs.specs.declared.scale.ScaleStep.TheVariants.{Join, Cut}
 use Rattle.kds_defs.specs.Histories.{answer_of, lines_of}
 use Rattle.kds_defs.specs.Journal.{Journal, Line, plain_line, with_lines}
 use Rattle.kds_defs.specs.Records.{next_number}
-use Rattle.kds_base.specs.Span.{uniform_from}
 use Rattle.kds_base.proofs.Facts.{neither_left}
-use Rattle.kds_defs.specs.Scaling.{apart, is_start, scale, starts_of, uniform_starts, with_start}
-use Rattle.kds_defs.specs.ScaleCommands.{made_by, starts_among, step_entry, step_lines, steps_to}
+use Rattle.kds_defs.specs.Scaling.{apart, is_start, scale, uniform_starts}
+use Rattle.kds_defs.specs.ScaleCommands.{made_by, step_entry, step_lines, steps_to}
 use Rattle.kds_defs.specs.Shards.{ShardState, is_open, shards}
 use Rattle.kds_defs.specs.StreamCommands.{last_number}
 use Rattle.kds_defs.proofs.Counted.{length_split, length_merged}
@@ -35,10 +33,10 @@ use Rattle.kds_stream_logs.specs.Steps.{entries_in, home_in, scaled, starts_in, 
 use Rattle.kds_stream.specs.Steps.{are_spent, scale_where}
 use Rattle.kds_stream_logs.specs.Logs.{empty_log}
 use Rattle.kds_stream.specs.Value.{EndsUnder, IsStream, StreamValue}
+use Rattle.kds_scale.proofs.Partitions.{length_wanted, length_starts}
 
 -- ---- The shards after the steps
 
--- After the steps of a scaling, there are as many more shards as the steps make.
 pub length_scaled : (steps : List ScaleStep) (n c : ℕ) (xs : List ShardState)
     → length (scaled steps n c xs) ≡ length xs + made_by steps
 length_scaled [] n c xs = omega arith
@@ -68,9 +66,7 @@ ends_scaled (Cut b ∷ steps) n c next xs le h =
 
 -- ---- The stream's invariant after the steps
 
--- Let a stream get the shards after the steps of a scaling, of which at most `OPEN_SHARDS` are open, and an empty log
--- and an unused window for each new shard. Let the next sequence number rise by one for each step. Then the stream
--- keeps its invariant (`IsStream`).
+-- A stream keeps its invariant after the steps, with an empty log and an unused window for each new shard.
 pub stream_scaled : (v : StreamValue) (steps : List ScaleStep) (tree : List ShardState) (logs : List LogValue)
     (windows ws : List WindowValue) (next : ℕ) → tree ≡ scaled steps v.next v.clock v.tree
     → length (filter is_open tree) ≤ OPEN_SHARDS → next ≡ v.next + length steps → next < 2 ^ 64
@@ -117,10 +113,8 @@ stream_scaled v steps tree logs windows ws next tree_is few drawn fits logs_are 
 
 -- ---- What the stream shows after the steps
 
--- Let the stream get the shards and the next sequence number after the steps, and an empty log and an unused window for
--- each new shard. Then it shows the journal with the lines of the steps. The entries in these lines are those that the
--- stream computes from its own shards.
-pub record ScalesSo (v : StreamValue) (log : Journal) (by : ℕ) (steps : List ScaleStep) (ws : List WindowValue) :
+-- After the steps, the stream shows the journal with their lines, whose entries it computes itself.
+pub record ScalesSo (v : StreamValue) (log : Journal) (actor : ℕ) (steps : List ScaleStep) (ws : List WindowValue) :
     Type 0 where
   pub shows : (next : ℕ) → next ≡ v.next + length steps
       → Shows (record v {
@@ -131,8 +125,8 @@ pub record ScalesSo (v : StreamValue) (log : Journal) (by : ℕ) (steps : List S
         clock_before =
             v.clock;
         cut_before = v.cut;
-      }) (with_lines (step_lines log v.clock by v.no steps) log)
-  pub entries_are : map (λ line. line.what) (step_lines log v.clock by v.no steps)
+      }) (with_lines (step_lines log v.clock actor v.no steps) log)
+  pub entries_are : map (λ line. line.what) (step_lines log v.clock actor v.no steps)
       ≡ entries_in v.no steps v.next v.clock v.tree
 
 shows_unscaled : (v : StreamValue) (log : Journal) (logs : List LogValue) (windows : List WindowValue) (next : ℕ)
@@ -153,24 +147,22 @@ shows_unscaled v log logs windows next logs_are windows_are drawn show =
     (sym logs_are)
     (record { stored = show.stored; rates = show.rates })))
 
--- Suppose that the stream `v` shows the journal, and that `ws` are unused windows, one for each shard that the steps
--- make. Then the stream after the steps shows the journal with the lines of the steps (`ScalesSo`).
-pub scales_so : (steps : List ScaleStep) (v : StreamValue) (log : Journal) (by : ℕ) (ws : List WindowValue)
+pub scales_so : (steps : List ScaleStep) (v : StreamValue) (log : Journal) (actor : ℕ) (ws : List WindowValue)
     → AllByRecursion IsUnused ws → length ws ≡ made_by steps → length v.logs ≡ length v.tree
-    → length v.windows ≡ length v.tree → Shows v log → ScalesSo v log by steps ws
-scales_so [] v log by [] unused many as_many as_wide show = record {
+    → length v.windows ≡ length v.tree → Shows v log → ScalesSo v log actor steps ws
+scales_so [] v log actor [] unused many as_many as_wide show = record {
   shows = λ next drawn.
       shows_unscaled v log (v.logs ++ []) (v.windows ++ []) next (append-nil v.logs) (append-nil v.windows)
       (omega arith) show;
   entries_are = refl;
 }
-scales_so [] v log by (w ∷ ws) unused many as_many as_wide show = absurd (omega arith)
-scales_so (Join b ∷ steps) v log by [] unused many as_many as_wide show = absurd (omega arith)
-scales_so (Join b ∷ steps) v log by (w ∷ ws) unused many as_many as_wide show =
+scales_so [] v log actor (w ∷ ws) unused many as_many as_wide show = absurd (omega arith)
+scales_so (Join b ∷ steps) v log actor [] unused many as_many as_wide show = absurd (omega arith)
+scales_so (Join b ∷ steps) v log actor (w ∷ ws) unused many as_many as_wide show =
     let sh : ℕ = home_in v.tree (b - 1) in
     let other : ℕ = home_in v.tree b in
     let tree : List ShardState = stepped (Join b) v.next v.clock v.tree in
-    let line : Line = merge_line log v.clock by v.no sh other in
+    let line : Line = merge_line log v.clock actor v.no sh other in
     let after : StreamValue =
     record v {
       tree = tree;
@@ -180,14 +172,14 @@ scales_so (Join b ∷ steps) v log by (w ∷ ws) unused many as_many as_wide sho
       clock_before = v.clock;
       cut_before = v.cut;
     } in
-    let same : plain_line v.clock by (step_entry log v.no (Join b)) ≡ line =
-    ap (λ xs. merge_line log v.clock by v.no (home_in xs (b - 1)) (home_in xs b)) show.stored.shards_are in
+    let same : plain_line v.clock actor (step_entry log v.no (Join b)) ≡ line =
+    ap (λ xs. merge_line log v.clock actor v.no (home_in xs (b - 1)) (home_in xs b)) show.stored.shards_are in
     let grown = length_merged sh other (v.next + 1) (record { number = v.next; clock = v.clock }) v.tree in
-    let rest : ScalesSo after (line ∷ log) by steps ws =
-    scales_so steps after (line ∷ log) by ws unused.1 (omega arith)
+    let rest : ScalesSo after (line ∷ log) actor steps ws =
+    scales_so steps after (line ∷ log) actor ws unused.1 (omega arith)
     (omega (arith, length-append v.logs (empty_log ∷ []), as_many, grown))
     (omega (arith, length-append v.windows (w ∷ []), as_wide, grown))
-    (shows_merged v log by show as_many as_wide sh other (v.next + 1) tree (v.logs ++ (empty_log ∷ []))
+    (shows_merged v log actor show as_many as_wide sh other (v.next + 1) tree (v.logs ++ (empty_log ∷ []))
     (v.windows ++ (w ∷ [])) (w ∷ []) refl refl refl refl (unused.0, tt)) in
     let one : 1 + made_by steps ≡ suc (made_by steps) = omega arith in
     record {
@@ -201,7 +193,7 @@ scales_so (Join b ∷ steps) v log by (w ∷ ws) unused many as_many as_wide sho
             clock_before = v.clock;
             cut_before = v.cut;
           })
-          (with_lines (step_lines (l ∷ log) v.clock by v.no steps) (l ∷ log))) (sym same)
+          (with_lines (step_lines (l ∷ log) v.clock actor v.no steps) (l ∷ log))) (sym same)
           (subst (λ ls. Shows (record v {
             tree = scaled steps (v.next + 1) v.clock tree;
             logs = ls;
@@ -210,7 +202,7 @@ scales_so (Join b ∷ steps) v log by (w ∷ ws) unused many as_many as_wide sho
             clock_before = v.clock;
             cut_before = v.cut;
           })
-          (with_lines (step_lines (line ∷ log) v.clock by v.no steps) (line ∷ log)))
+          (with_lines (step_lines (line ∷ log) v.clock actor v.no steps) (line ∷ log)))
           (append_assoc v.logs (empty_log ∷ []) (replicate (made_by steps) empty_log)
           ∙ ap (λ k. v.logs ++ replicate k empty_log) (sym one))
           (subst (λ us. Shows (record v {
@@ -222,22 +214,22 @@ scales_so (Join b ∷ steps) v log by (w ∷ ws) unused many as_many as_wide sho
             clock_before = v.clock;
             cut_before = v.cut;
           })
-          (with_lines (step_lines (line ∷ log) v.clock by v.no steps) (line ∷ log)))
+          (with_lines (step_lines (line ∷ log) v.clock actor v.no steps) (line ∷ log)))
           (append_assoc v.windows (w ∷ []) ws) (rest.shows next (omega arith))));
       entries_are =
-          ap (λ l. l.what ∷ map (λ k. k.what) (step_lines (l ∷ log) v.clock by v.no steps)) same
+          ap (λ l. l.what ∷ map (λ k. k.what) (step_lines (l ∷ log) v.clock actor v.no steps)) same
           ∙ ap (λ n. entry.Merged v.no sh other n (length (shards log v.no)) ∷ map (λ k. k.what)
-          (step_lines (line ∷ log) v.clock by v.no steps)) show.stored.next_is
+          (step_lines (line ∷ log) v.clock actor v.no steps)) show.stored.next_is
           ∙ ap (λ xs. entry.Merged v.no sh other v.next (length xs)
-          ∷ map (λ k. k.what) (step_lines (line ∷ log) v.clock by v.no steps)) show.stored.shards_are
+          ∷ map (λ k. k.what) (step_lines (line ∷ log) v.clock actor v.no steps)) show.stored.shards_are
           ∙ ap (λ es. entry.Merged v.no sh other v.next (length v.tree) ∷ es) rest.entries_are;
     }
-scales_so (Cut b ∷ steps) v log by [] unused many as_many as_wide show = absurd (omega arith)
-scales_so (Cut b ∷ steps) v log by (w ∷ []) unused many as_many as_wide show = absurd (omega arith)
-scales_so (Cut b ∷ steps) v log by (w ∷ u ∷ ws) unused many as_many as_wide show =
+scales_so (Cut b ∷ steps) v log actor [] unused many as_many as_wide show = absurd (omega arith)
+scales_so (Cut b ∷ steps) v log actor (w ∷ []) unused many as_many as_wide show = absurd (omega arith)
+scales_so (Cut b ∷ steps) v log actor (w ∷ u ∷ ws) unused many as_many as_wide show =
     let sh : ℕ = home_in v.tree b in
     let tree : List ShardState = stepped (Cut b) v.next v.clock v.tree in
-    let line : Line = split_line log v.clock by v.no sh b in
+    let line : Line = split_line log v.clock actor v.no sh b in
     let both : List LogValue = empty_log ∷ empty_log ∷ [] in
     let after : StreamValue =
     record v {
@@ -248,14 +240,14 @@ scales_so (Cut b ∷ steps) v log by (w ∷ u ∷ ws) unused many as_many as_wid
       clock_before = v.clock;
       cut_before = v.cut;
     } in
-    let same : plain_line v.clock by (step_entry log v.no (Cut b)) ≡ line =
-    ap (λ xs. split_line log v.clock by v.no (home_in xs b) b) show.stored.shards_are in
+    let same : plain_line v.clock actor (step_entry log v.no (Cut b)) ≡ line =
+    ap (λ xs. split_line log v.clock actor v.no (home_in xs b) b) show.stored.shards_are in
     let grown = length_split sh b (v.next + 1) (record { number = v.next; clock = v.clock }) v.tree in
-    let rest : ScalesSo after (line ∷ log) by steps ws =
-    scales_so steps after (line ∷ log) by ws unused.1.1 (omega arith)
+    let rest : ScalesSo after (line ∷ log) actor steps ws =
+    scales_so steps after (line ∷ log) actor ws unused.1.1 (omega arith)
     (omega (arith, length-append v.logs both, as_many, grown))
     (omega (arith, length-append v.windows (w ∷ u ∷ []), as_wide, grown))
-    (shows_split v log by show as_many as_wide sh b (v.next + 1) tree (v.logs ++ (empty_log ∷ empty_log ∷ []))
+    (shows_split v log actor show as_many as_wide sh b (v.next + 1) tree (v.logs ++ (empty_log ∷ empty_log ∷ []))
     (v.windows ++ (w ∷ u ∷ [])) (w ∷ u ∷ []) refl refl refl refl (unused.0, (unused.1.0, tt))) in
     let two : 2 + made_by steps ≡ suc (suc (made_by steps)) = omega arith in
     record {
@@ -269,7 +261,7 @@ scales_so (Cut b ∷ steps) v log by (w ∷ u ∷ ws) unused many as_many as_wid
             clock_before = v.clock;
             cut_before = v.cut;
           })
-          (with_lines (step_lines (l ∷ log) v.clock by v.no steps) (l ∷ log))) (sym same)
+          (with_lines (step_lines (l ∷ log) v.clock actor v.no steps) (l ∷ log))) (sym same)
           (subst (λ ls. Shows (record v {
             tree = scaled steps (v.next + 1) v.clock tree;
             logs = ls;
@@ -278,7 +270,7 @@ scales_so (Cut b ∷ steps) v log by (w ∷ u ∷ ws) unused many as_many as_wid
             clock_before = v.clock;
             cut_before = v.cut;
           })
-          (with_lines (step_lines (line ∷ log) v.clock by v.no steps) (line ∷ log)))
+          (with_lines (step_lines (line ∷ log) v.clock actor v.no steps) (line ∷ log)))
           (append_assoc v.logs (empty_log ∷ empty_log ∷ []) (replicate (made_by steps) empty_log)
           ∙ ap (λ k. v.logs ++ replicate k empty_log) (sym two))
           (subst (λ us. Shows (record v {
@@ -290,26 +282,24 @@ scales_so (Cut b ∷ steps) v log by (w ∷ u ∷ ws) unused many as_many as_wid
             clock_before = v.clock;
             cut_before = v.cut;
           })
-          (with_lines (step_lines (line ∷ log) v.clock by v.no steps) (line ∷ log)))
+          (with_lines (step_lines (line ∷ log) v.clock actor v.no steps) (line ∷ log)))
           (append_assoc v.windows (w ∷ u ∷ []) ws) (rest.shows next (omega arith))));
       entries_are =
-          ap (λ l. l.what ∷ map (λ k. k.what) (step_lines (l ∷ log) v.clock by v.no steps)) same
+          ap (λ l. l.what ∷ map (λ k. k.what) (step_lines (l ∷ log) v.clock actor v.no steps)) same
           ∙ ap (λ n. entry.Split v.no sh b n (length (shards log v.no)) (length (shards log v.no) + 1)
           ∷ map (λ k. k.what)
-          (step_lines (line ∷ log) v.clock by v.no steps)) show.stored.next_is
+          (step_lines (line ∷ log) v.clock actor v.no steps)) show.stored.next_is
           ∙ ap (λ xs. entry.Split v.no sh b v.next (length xs) (length xs + 1) ∷ map (λ k. k.what)
-          (step_lines (line ∷ log) v.clock by v.no steps)) show.stored.shards_are
+          (step_lines (line ∷ log) v.clock actor v.no steps)) show.stored.shards_are
           ∙ ap (λ es. entry.Split v.no sh b v.next (length v.tree) (length v.tree + 1) ∷ es) rest.entries_are;
     }
 
 -- ---- The decision
 
-module _ (v : StreamValue) (log : Journal) (by target : ℕ) (show : Shows v log) where
-  -- If more shards would be open than may be (`full`), UpdateShardCount is refused with `Full`. The stream shows the
-  -- journal with the decision's lines, of which there are none.
+module _ (v : StreamValue) (log : Journal) (actor target : ℕ) (show : Shows v log) where
   pub scale_full : (full : Bool) → full ≡ true
-      → (Err refusal.Full ≡ answer_of (scale_where full log v.clock by v.name v.no target))
-      × Shows v (with_lines (lines_of (scale_where full log v.clock by v.name v.no target)) log)
+      → (Err refusal.Full ≡ answer_of (scale_where full log v.clock actor v.name v.no target))
+      × Shows v (with_lines (lines_of (scale_where full log v.clock actor v.name v.no target)) log)
   scale_full full is = after_refused _ refusal.Full log (λ l. Shows v l) (refused_if _ _ _ is) show
 
   steps_are : steps_to log v.no target ≡ scale (starts_in v.tree) target
@@ -323,28 +313,24 @@ module _ (v : StreamValue) (log : Journal) (by target : ℕ) (show : Shows v log
       ∙ ap (λ (xs : List ShardState). are_spent v.next (length xs) (steps_to log v.no target)) show.stored.shards_are
       ∙ ap (λ ts. are_spent v.next (length v.tree) ts) (steps_are ∙ sym are)
 
-  -- If the sequence numbers or the shard numbers don't suffice for the steps, UpdateShardCount is refused with `Spent`.
-  -- The stream shows the journal with the decision's lines, of which there are none.
   pub scale_spent : (full : Bool) (steps : List ScaleStep) → full ≡ false → steps ≡ scale (starts_in v.tree) target
       → are_spent v.next (length v.tree) steps ≡ true
-      → (Err refusal.Spent ≡ answer_of (scale_where full log v.clock by v.name v.no target))
-      × Shows v (with_lines (lines_of (scale_where full log v.clock by v.name v.no target)) log)
+      → (Err refusal.Spent ≡ answer_of (scale_where full log v.clock actor v.name v.no target))
+      × Shows v (with_lines (lines_of (scale_where full log v.clock actor v.name v.no target)) log)
   scale_spent full steps free are spent =
       after_refused _ refusal.Spent log (λ l. Shows v l) (passed_if _ _ _ free
       ∙ refused_if _ _ _ (spent_is steps are ∙ spent)) show
 
-  -- If the shards aren't too many and the numbers suffice, UpdateShardCount is accepted, and its reply has `name`,
-  -- `before`, `target` and `entries`. The stream with the shards, logs and windows after the steps shows the journal
-  -- with the decision's lines.
+  -- An accepted UpdateShardCount answers as the decision does, and the stream after the steps shows its lines.
   pub scale_done : (full : Bool) (steps : List ScaleStep) (ws : List WindowValue) (tree : List ShardState)
-      (logs : List LogValue) (windows : List WindowValue) (next before : ℕ) (name : List ℕ) (entries : List Entry)
+      (logs : List LogValue) (windows : List WindowValue) (next old : ℕ) (name : List ℕ) (entries : List Entry)
       → full ≡ false → steps ≡ scale (starts_in v.tree) target → are_spent v.next (length v.tree) steps ≡ false
       → tree ≡ scaled steps v.next v.clock v.tree → logs ≡ v.logs ++ replicate (made_by steps) empty_log
       → windows ≡ v.windows ++ ws → AllByRecursion IsUnused ws → length ws ≡ made_by steps
       → next ≡ v.next + length steps
-      → before ≡ length (filter is_open v.tree) → name ≡ v.name → entries ≡ entries_in v.no steps v.next v.clock v.tree
+      → old ≡ length (filter is_open v.tree) → name ≡ v.name → entries ≡ entries_in v.no steps v.next v.clock v.tree
       → length v.logs ≡ length v.tree → length v.windows ≡ length v.tree
-      → (Ok (reply.Scaled name before target entries) ≡ answer_of (scale_where full log v.clock by v.name v.no target))
+      → (Ok (reply.Scaled name old target entries) ≡ answer_of (scale_where full log v.clock actor v.name v.no target))
       × Shows (record v {
         tree = tree;
         logs = logs;
@@ -352,9 +338,9 @@ module _ (v : StreamValue) (log : Journal) (by target : ℕ) (show : Shows v log
         next = next;
         clock_before = v.clock;
         cut_before = v.cut;
-      }) (with_lines (lines_of (scale_where full log v.clock by v.name v.no target)) log)
-  scale_done full steps ws tree logs windows next before name entries free are unspent tree_is logs_are windows_are
-      unused many drawn counted named told as_many as_wide =
+      }) (with_lines (lines_of (scale_where full log v.clock actor v.name v.no target)) log)
+  scale_done full steps ws tree logs windows next old name entries free are unspent tree_is logs_are windows_are
+      unused many drawn counted named is_told as_many as_wide =
       let w : StreamValue =
       record v {
         tree = tree;
@@ -364,10 +350,11 @@ module _ (v : StreamValue) (log : Journal) (by target : ℕ) (show : Shows v log
         clock_before = v.clock;
         cut_before = v.cut;
       } in
-      let so = scales_so steps v log by ws unused many as_many as_wide show in
-      let lines_are : step_lines log v.clock by v.no (steps_to log v.no target) ≡ step_lines log v.clock by v.no steps =
-      ap (step_lines log v.clock by v.no) (steps_are ∙ sym are) in
-      let shown : Shows w (with_lines (step_lines log v.clock by v.no steps) log) =
+      let so = scales_so steps v log actor ws unused many as_many as_wide show in
+      let lines_are : step_lines log v.clock actor v.no (steps_to log v.no target)
+      ≡ step_lines log v.clock actor v.no steps =
+      ap (step_lines log v.clock actor v.no) (steps_are ∙ sym are) in
+      let shown : Shows w (with_lines (step_lines log v.clock actor v.no steps) log) =
       subst (λ (xs : List ShardState).
       Shows (record v {
         tree = xs;
@@ -376,7 +363,7 @@ module _ (v : StreamValue) (log : Journal) (by target : ℕ) (show : Shows v log
         next = next;
         clock_before = v.clock;
         cut_before = v.cut;
-      }) (with_lines (step_lines log v.clock by v.no steps) log)) (sym tree_is)
+      }) (with_lines (step_lines log v.clock actor v.no steps) log)) (sym tree_is)
       (subst (λ (ls : List LogValue).
       Shows (record v {
         tree = scaled steps v.next v.clock v.tree;
@@ -385,7 +372,7 @@ module _ (v : StreamValue) (log : Journal) (by target : ℕ) (show : Shows v log
         next = next;
         clock_before = v.clock;
         cut_before = v.cut;
-      }) (with_lines (step_lines log v.clock by v.no steps) log))
+      }) (with_lines (step_lines log v.clock actor v.no steps) log))
       (sym logs_are)
       (subst (λ (us : List WindowValue).
       Shows (record v {
@@ -395,58 +382,31 @@ module _ (v : StreamValue) (log : Journal) (by target : ℕ) (show : Shows v log
         next = next;
         clock_before = v.clock;
         cut_before = v.cut;
-      }) (with_lines (step_lines log v.clock by v.no steps) log)) (sym windows_are)
+      }) (with_lines (step_lines log v.clock actor v.no steps) log)) (sym windows_are)
       (so.shows next drawn))) in
-      let both = after_accepted (scale_where full log v.clock by v.name v.no target) _ _ log (λ l. Shows w l)
+      let both = after_accepted (scale_where full log v.clock actor v.name v.no target) _ _ log (λ l. Shows w l)
       (passed_if _ _ _ free ∙ passed_if _ _ _ (spent_is steps are ∙ unspent))
       (subst (λ ls. Shows w (with_lines ls log)) (sym lines_are) shown) in
-      let answer : reply.Scaled name before target entries
+      let answer : reply.Scaled name old target entries
       ≡ reply.Scaled v.name (length (filter is_open (shards log v.no))) target
-      (map (λ line. line.what) (step_lines log v.clock by v.no (steps_to log v.no target))) =
-      ap (λ (n : List ℕ). reply.Scaled n before target entries) named
+      (map (λ line. line.what) (step_lines log v.clock actor v.no (steps_to log v.no target))) =
+      ap (λ (n : List ℕ). reply.Scaled n old target entries) named
       ∙ ap (λ (n : ℕ). reply.Scaled v.name n target entries) (counted
       ∙ ap (λ (xs : List ShardState). length (filter is_open xs)) (sym show.stored.shards_are))
-      ∙ ap (λ (es : List Entry). reply.Scaled v.name (length (filter is_open (shards log v.no))) target es) (told
+      ∙ ap (λ (es : List Entry). reply.Scaled v.name (length (filter is_open (shards log v.no))) target es) (is_told
       ∙ sym so.entries_are ∙ ap (map (λ line. line.what)) (sym lines_are)) in
       (ap Ok answer ∙ both.0, both.1)
 
 -- ---- What the code's tests mean
 
--- If `a` is below `b`, the test `nat_lt a b` is true.
 pub is_less : (a b : ℕ) → a < b → nat_lt a b ≡ true
 is_less a b h = grind (arith, nat_tests)
 
--- If `a` isn't below `b`, the test `nat_lt a b` is false.
 pub is_not_less : (a b : ℕ) → b ≤ a → nat_lt a b ≡ false
 is_not_less a b h = grind (arith, nat_tests)
 
--- After the start `b` is inserted in front of `x`, or somewhere behind `x`, the list has one more element. `lt` says
--- whether `b` is inserted in front of `x`.
-more_starts : (lt : Bool) (b x : ℕ) (xs ys : List ℕ) → length ys ≡ suc (length xs)
-    → length (if lt then b ∷ x ∷ xs else x ∷ ys) ≡ suc (suc (length xs))
-more_starts true b x xs ys h = refl
-more_starts false b x xs ys h = ap suc h
-
-length-with_start : (b : ℕ) (xs : List ℕ) → length (with_start b xs) ≡ suc (length xs)
-length-with_start b [] = refl
-length-with_start b (x ∷ xs) = more_starts (nat_lt b x) b x xs (with_start b xs) (length-with_start b xs)
-
-length-starts : (xs : List ShardState) → length (starts_among xs) ≡ length xs
-length-starts [] = refl
-length-starts (x ∷ xs) = length-with_start x.range.start (starts_among xs) ∙ ap suc (length-starts xs)
-
--- A list of shards has as many starts (first keys of open shards) as open shards.
 pub starts_many : (xs : List ShardState) → length (starts_in xs) ≡ length (filter is_open xs)
-starts_many xs = length-starts (filter is_open xs)
-
-length-uniform : (width start n : ℕ) → length (starts_of (uniform_from width start n)) ≡ n
-length-uniform width start zero = refl
-length-uniform width start (suc zero) = refl
-length-uniform width start (suc (suc n)) = ap suc (length-uniform width (start + width) (suc n))
-
--- There are `n` starts of `n` uniform ranges.
-pub uniform_many : (n : ℕ) → length (uniform_starts n) ≡ n
-uniform_many n = length-uniform (2 ^ 128 / n) 0 n
+starts_many xs = length_starts (filter is_open xs)
 
 fewer_by : (b : Bool) (x : ℕ) (xs ys : List ℕ) → length xs ≤ length ys → length (cond b (x ∷ xs) xs) ≤ suc (length ys)
 fewer_by true x xs ys h = omega arith
@@ -456,12 +416,10 @@ fewer : (p : ℕ → Bool) (xs : List ℕ) → length (filter p xs) ≤ length x
 fewer p [] = omega arith
 fewer p (x ∷ xs) = fewer_by (p x) x (filter p xs) xs (fewer p xs)
 
--- The number of starts that are in exactly one of two lists is at most the number of starts in both lists together.
 pub few_apart : (starts wanted : List ℕ) → apart starts wanted ≤ length starts + length wanted
 few_apart starts wanted =
     omega (arith, fewer (λ b. not (is_start wanted b)) starts, fewer (λ b. not (is_start starts b)) wanted)
 
--- A scaling of at most `OPEN_SHARDS` open shards to at most 500 shards has at most 2^30 steps.
 pub few_steps : (xs : List ShardState) (target : ℕ) (starts : List ℕ) (steps : List ScaleStep) → starts ≡ starts_in xs
     → length (filter is_open xs) ≤ OPEN_SHARDS → target ≤ 500 → length steps ≡ apart starts (uniform_starts target)
     → length steps ≤ 2 ^ 30
@@ -470,26 +428,22 @@ few_steps xs target starts steps are few most count =
       arith,
       count,
       few_apart starts (uniform_starts target),
-      uniform_many target,
+      length_wanted target,
       starts_many xs,
       ap (length {A = ℕ}) are,
       few,
       most,
     )
 
--- If the first keys of the open shards are the starts of at most 500 uniform ranges, at most `OPEN_SHARDS` shards are
--- open.
 pub open_so : (xs : List ShardState) (target : ℕ) → starts_in xs ≡ uniform_starts target → target ≤ 500
     → length (filter is_open xs) ≤ OPEN_SHARDS
-open_so xs target are most = omega (arith, starts_many xs, ap (length {A = ℕ}) are, uniform_many target, most)
+open_so xs target are most = omega (arith, starts_many xs, ap (length {A = ℕ}) are, length_wanted target, most)
 
--- The code's test whether the sequence numbers or shard numbers are used up has the same result as `are_spent`. The
--- numbers `a`, `k`, `l` and `m` are those with which the code computes.
 pub spent_so : (next a k l m : ℕ) (tree : List ShardState) (steps : List ScaleStep) → a ≡ next → k ≡ length steps
     → l ≡ length tree → m ≡ made_by steps → (nat_lt last_number (a + k) || nat_lt last_number (l + m))
     ≡ are_spent next (length tree) steps
-spent_so next a k l m tree steps at ak al am =
-    ap (λ n. nat_lt last_number (n + k) || nat_lt last_number (l + m)) at
+spent_so next a k l m tree steps is_at ak al am =
+    ap (λ n. nat_lt last_number (n + k) || nat_lt last_number (l + m)) is_at
     ∙ ap (λ n. nat_lt last_number (next + n) || nat_lt last_number (l + m)) ak
     ∙ ap (λ n. nat_lt last_number (next + length steps) || nat_lt last_number (n + m)) al
     ∙ ap (λ n. nat_lt last_number (next + length steps) || nat_lt last_number (length tree + n)) am
@@ -497,7 +451,6 @@ spent_so next a k l m tree steps at ak al am =
 not_past : (n : ℕ) → nat_lt last_number n ≡ false → n < 2 ^ 64
 not_past n h = grind (arith, nat_tests)
 
--- If the sequence numbers suffice for the steps, the next sequence number after the steps is below 2^64.
 pub numbers_fit : (next count : ℕ) (steps : List ScaleStep) → are_spent next count steps ≡ false
     → next + length steps < 2 ^ 64
 numbers_fit next count steps free = not_past (next + length steps) (neither_left _ _ free)

@@ -21,60 +21,58 @@ use Rattle.kds_stream.specs.Value.{StreamValue}
 
 -- ---- A command that may change the stream
 
--- Let `d` be the machine's decision on the command `what'`, which is equal to `what`. If a call changed the stream `v`
--- to `w` and answered as `d` does (`Decides`), it served the command `what` (`Serves`). If the call ran out of memory,
--- nothing is claimed.
+-- A call that answers and changes the stream as the machine's decision says serves the command.
 pub serves : {E : Type 0} (r : Result (Result Reply Refusal) E) (v w : StreamValue) (open_limit : ℕ)
-    (what what' : Command)
+    (command command' : Command)
     (d : Journal → ℕ → Decision)
-    → what ≡ what' → ((log : Journal) (by : ℕ) → IsToldOf what' open_limit v log
-    → decide log v.clock by what' ≡ d log by)
-    → IfOk r (λ a. Decides v w a d) → IfOk r (λ a. Serves what open_limit v w a)
-serves (Err e) v w open_limit what what' d is same led = tt
-serves (Ok gives) v w open_limit what what' d is same led =
+    → command ≡ command' → ((log : Journal) (actor : ℕ) → IsToldOf command' open_limit v log
+    → decide log v.clock actor command' ≡ d log actor)
+    → IfOk r (λ a. Decides v w a d) → IfOk r (λ a. Serves command open_limit v w a)
+serves (Err e) v w open_limit command command' d is same led = tt
+serves (Ok gives) v w open_limit command command' d is same led =
     subst (λ x. Serves x open_limit v w gives) (sym is)
-    (λ log by told. subst (λ e. (gives ≡ answer_of e) × Shows w (with_lines (lines_of e) log)) (sym (same log by told))
-    (led log by told.shown))
+    (λ log actor is_told.
+    subst (λ e. (gives ≡ answer_of e) × Shows w (with_lines (lines_of e) log)) (sym (same log actor is_told))
+    (led log actor is_told.shown))
 
 -- ---- A command that only reads, and adds no line
 
--- Let the command `what'`, which is equal to `what`, only read, and let `d` be the machine's decision on it. If a call
--- left the stream `v` unchanged and answered as `d` does, it served the command `what` (`Serves`). If the call ran out
--- of memory, nothing is claimed.
-pub tells : {E : Type 0} (r : Result (Result Reply Refusal) E) (v : StreamValue) (open_limit : ℕ) (what what' : Command)
+-- A call that answers a query as the machine's decision does serves the command.
+pub tells : {E : Type 0} (r : Result (Result Reply Refusal) E) (v : StreamValue) (open_limit : ℕ)
+    (command command' : Command)
     (d : Journal → Decision)
-    → what ≡ what' → is_query what' ≡ true
-    → ((log : Journal) (by : ℕ) → IsToldOf what' open_limit v log → decide log v.clock by what' ≡ d log)
-    → ((log : Journal) → Shows v log → IfOk r (λ a. a ≡ answer_of (d log))) → IfOk r (λ a. Serves what open_limit v v a)
-tells (Err e) v open_limit what what' d is query same answered = tt
-tells (Ok gives) v open_limit what what' d is query same answered =
+    → command ≡ command' → is_query command' ≡ true
+    → ((log : Journal) (actor : ℕ) → IsToldOf command' open_limit v log → decide log v.clock actor command' ≡ d log)
+    → ((log : Journal) → Shows v log → IfOk r (λ a. a ≡ answer_of (d log)))
+    → IfOk r (λ a. Serves command open_limit v v a)
+tells (Err e) v open_limit command command' d is query same answered = tt
+tells (Ok gives) v open_limit command command' d is query same answered =
     subst (λ x. Serves x open_limit v v gives) (sym is)
-    (λ log by told.
-    let none = query_idle log v.clock by what' query in (
-      answered log told.shown ∙ ap answer_of (sym (same log by told)),
-      subst (λ lines. Shows v (with_lines lines log)) (sym none) told.shown,
+    (λ log actor is_told.
+    let none = query_idle log v.clock actor command' query in (
+      answered log is_told.shown ∙ ap answer_of (sym (same log actor is_told)),
+      subst (λ lines. Shows v (with_lines lines log)) (sym none) is_told.shown,
     ))
 
 -- ---- The stream's tests of the limit on open shards
 
-module _ (what : Command) (open_limit : ℕ) (v : StreamValue) (log : Journal) (told : IsToldOf what open_limit v log)
-    (asks : needs_open_limit what ≡ true) where
-  -- The stream's test whether no further shard may be open (`is_full`) has the same result as the machine's test over
-  -- all streams.
+module _ (command : Command) (open_limit : ℕ) (v : StreamValue) (log : Journal)
+    (is_told : IsToldOf command open_limit v log)
+    (asks : needs_open_limit command ≡ true) where
+  -- The stream's own limit of open shards agrees with the limit over all streams.
   pub full_so : is_full v open_limit ≡ nat_le OPEN_SHARDS (open_count log)
-  full_so = by (length (filter is_open v.tree)) (open_elsewhere log v.no) (open_count log) open_limit told.opened
-      (told.fits asks)
+  full_so = cases (length (filter is_open v.tree)) (open_elsewhere log v.no) (open_count log) open_limit is_told.opened
+      (is_told.fits asks)
     where
-      by : (own others all open_limit : ℕ) → all ≡ others + own → open_limit ≡ OPEN_SHARDS - others
+      cases : (own others all open_limit : ℕ) → all ≡ others + own → open_limit ≡ OPEN_SHARDS - others
           → (nat_le open_limit own || nat_le OPEN_SHARDS own) ≡ nat_le OPEN_SHARDS all
-      by own others all open_limit sum is = grind (arith, nat_tests)
+      cases own others all open_limit sum is = grind (arith, nat_tests)
 
-  -- The stream's test whether `target` open shards are too many (`is_over`) has the same result as the machine's test
-  -- over all streams.
+  -- The stream's own limit of a scaling agrees with the limit over all streams.
   pub over_so : (target : ℕ) → 1 ≤ target
       → is_over target open_limit ≡ nat_lt OPEN_SHARDS (open_elsewhere log v.no + target)
-  over_so target some = by (open_elsewhere log v.no) open_limit (told.fits asks)
+  over_so target some = cases (open_elsewhere log v.no) open_limit (is_told.fits asks)
     where
-      by : (others open_limit : ℕ) → open_limit ≡ OPEN_SHARDS - others
+      cases : (others open_limit : ℕ) → open_limit ≡ OPEN_SHARDS - others
           → nat_lt open_limit target ≡ nat_lt OPEN_SHARDS (others + target)
-      by others open_limit is = grind (arith, nat_tests)
+      cases others open_limit is = grind (arith, nat_tests)

@@ -1,11 +1,11 @@
--- The value that represents a stream in contracts, made from the stream's fields.
+-- The value that represents a stream in contracts, made from its fields.
 use Rattle.std.specs.Prelude.{map}
 use Rattle.kds_log.specs.Log.{log_of}
 use Rattle.kds_stream.specs.declared.stream.Stream.TheInside.{Inside}
 use Rattle.kds_stream.specs.Value.{StreamValue}
 
--- The value of a stream that has the fields `s`. A log is represented without its reserved memory.
-abbrev pub value_of : Inside → StreamValue
+-- The stream value of the fields; its logs leave out their reserved memory.
+abbrev pub value_of : (s : Inside) → StreamValue
 value_of s =
     record {
       no = s.no;

@@ -1,5 +1,4 @@
--- Which journals a stream shows: those journals that say of the stream what its fields hold. A retreat sets a stream's
--- clock and cut back to `clock_before` and `cut_before`.
+-- Which journals a stream shows: those that say of it what its fields hold.
 use Rattle.std.specs.Prelude.{ℕ, ◌≡◌, ◌+◌, ◌≤◌, Bool, true, false, ◌||◌, nat_le, List, [], ◌∷◌, length, Option, Some}
 use Rattle.std.specs.Prelude.{None, Result}
 use Rattle.std.specs.List.{filter}
@@ -18,27 +17,22 @@ use Rattle.kds_log.specs.Log.{LogValue}
 use Rattle.kds_stream.specs.Rating.{ShowsRates}
 use Rattle.kds_stream.specs.Value.{StreamValue}
 
--- The records `kept` are the records `rs` without those that arrived before the time `from`, which is at most `floor`.
--- So only records that arrived before the time `floor` are missing.
+-- Of `rs`, only records that arrived before `floor` are missing in `kept`.
 pub record IsKept (floor : ℕ) (rs kept : List Logged) : Type 0 where
   pub from : ℕ
   pub early : from ≤ floor
   pub rest : kept ≡ left_among from 0 rs
 
--- Each log of a list keeps the records of one shard of stream `s`, except for some that arrived before the time `floor`
--- (`IsKept`). The first log keeps the records of shard `n`, the second those of shard `n + 1`, and so on.
-abbrev pub AreKept : ℕ → Journal → ℕ → ℕ → List LogValue → Type 0
+-- The logs keep the records of the shards from `n` on, except for some that arrived before `floor`.
+abbrev pub AreKept : (floor : ℕ) (log : Journal) (s n : ℕ) (ls : List LogValue) → Type 0
 AreKept floor log s n [] = Unit {0}
 AreKept floor log s n (l ∷ ls) = IsKept floor (records log s n) l.kept × AreKept floor log s (n + 1) ls
 
--- The stream `v` without its windows and its limits, without the clock and the cut to which a retreat goes back, and
--- without the index of the log that loses its trimmed records next.
-abbrev pub bare : StreamValue → StreamValue
+-- The stream without throughput, without the clock and cut of a retreat, and without what is settled next.
+abbrev pub bare : (v : StreamValue) → StreamValue
 bare v = record v { windows = []; enforced = false; clock_before = 0; cut_before = None; next_to_settle = 0 }
 
--- By the journal `log`, the stream `v` is live. Its name, its time of making, its retention, its shards, its next
--- sequence number and its trim floor are those by the journal. Each log keeps the records of its shard, except for some
--- that are trimmed, and no record is in a shard that `v` doesn't have. Throughput isn't compared.
+-- The journal says of the stream what its fields hold, throughput aside; logs may lack trimmed records.
 pub record ShowsFields (v : StreamValue) (log : Journal) : Type 0 where
   pub live : is_live log v.no ≡ true
   pub was : was_made log v.no ≡ true
@@ -51,53 +45,44 @@ pub record ShowsFields (v : StreamValue) (log : Journal) : Type 0 where
   pub kept : AreKept (floor_of v.cut) log v.no 0 v.logs
   pub none_beyond : (sh : ℕ) → length v.tree ≤ sh → records log v.no sh ≡ []
 
--- The stream `v` shows the journal `log` without regard to the parts that `bare` removes. These are the windows and
--- limits, the clock and the cut of a retreat, and the index of the log that loses its trimmed records next.
-abbrev pub ShowsStored : StreamValue → Journal → Type 0
+-- The stream shows the journal, without regard to the parts that `bare` removes.
+abbrev pub ShowsStored : (v : StreamValue) (log : Journal) → Type 0
 ShowsStored v log = ShowsFields (bare v) log
 
--- The stream `v` shows the journal `log`: the fields of `v` hold what the journal says of this stream, and the windows
--- and limits of `v` fit the puts and settings in the journal.
+-- The stream's fields, windows and limits fit what the journal says of it.
 pub record Shows (v : StreamValue) (log : Journal) : Type 0 where
   pub stored : ShowsStored v log
   pub rates : ShowsRates log v.no v.enforced (length v.tree) v.windows
 
--- A call gave the answer `gives`, and changed the stream `old` to `new`. After each journal that `old` showed, the
--- decision `d` gives this answer, and `new` shows the journal with the decision's lines. The decision depends on the
--- journal and on the actor.
-abbrev pub Decides : StreamValue → StreamValue → Result Reply Refusal → (Journal → ℕ → Decision) → Type 0
-Decides old new gives d = (log : Journal) (by : ℕ) → Shows old log → (gives ≡ answer_of (d log by))
-    × Shows new (with_lines (lines_of (d log by)) log)
+-- After each journal that the stream showed, the answer is the decision's, and it then shows its lines too.
+abbrev pub Decides : (old new : StreamValue) (gives : Result Reply Refusal) (d : Journal → ℕ → Decision) → Type 0
+Decides old new gives d = (log : Journal) (actor : ℕ) → Shows old log → (gives ≡ answer_of (d log actor))
+    × Shows new (with_lines (lines_of (d log actor)) log)
 
--- If there is a refusal, the decision `d` is this refusal. Otherwise `d` accepts with the line `line` alone and the
--- reply `Done`.
-abbrev pub IsDecidedBy : Option Refusal → Line → Decision → Type 0
+-- The decision is the refusal, if there is one, and otherwise accepts with `line` and the reply `Done`.
+abbrev pub IsDecidedBy : (r : Option Refusal) (line : Line) (d : Decision) → Type 0
 IsDecidedBy (Some r) line d = d ≡ Refused r
 IsDecidedBy None line d = d ≡ Accepted (line ∷ []) reply.Done
 
--- After each journal that the stream `v` shows, the decision `d` is the refusal in `o`, if there is one. Otherwise `d`
--- accepts with the one line that `line` gives and the reply `Done`. Both `line` and `d` depend on the journal, the
--- stream's clock, the actor and the stream's number.
-abbrev pub RefusesAs : StreamValue → Option Refusal → (Journal → ℕ → ℕ → ℕ → Line) → (Journal → ℕ → ℕ → ℕ → Decision)
-    → Type 0
-RefusesAs v o line d = (log : Journal) (by : ℕ) → Shows v log
-    → IsDecidedBy o (line log v.clock by v.no) (d log v.clock by v.no)
+-- After every journal that `v` shows, `o` decides: its refusal, or else acceptance with the one line.
+abbrev pub RefusesAs : (v : StreamValue) (o : Option Refusal) (line : Journal → ℕ → ℕ → ℕ → Line)
+    (d : Journal → ℕ → ℕ → ℕ → Decision) → Type 0
+RefusesAs v o line d = (log : Journal) (actor : ℕ) → Shows v log
+    → IsDecidedBy o (line log v.clock actor v.no) (d log v.clock actor v.no)
 
--- Whether no further shard may be open in the stream `v`: at least `open_limit` shards are open in it, or at least
--- `OPEN_SHARDS`, the limit for all streams together.
-abbrev pub is_full : StreamValue → ℕ → Bool
+-- Whether no further shard may be open in the stream, by its own limit or `OPEN_SHARDS`.
+abbrev pub is_full : (v : StreamValue) (open_limit : ℕ) → Bool
 is_full v open_limit =
     nat_le open_limit (length (filter is_open v.tree)) || nat_le OPEN_SHARDS (length (filter is_open v.tree))
 
 -- ---- The lines of a split and of a merge
 
--- The line of a split of shard `sh` of stream `s` at the key `at`. It has the next sequence number of the stream and
--- the next two shard numbers after the lines of `log`.
-abbrev pub split_line : Journal → ℕ → ℕ → ℕ → ℕ → ℕ → Line
-split_line log c by s sh at =
-    plain_line c by (entry.Split s sh at (next_number log s) (length (shards log s)) (length (shards log s) + 1))
+-- The line of a split of shard `sh` at the key `hash`, with the stream's next numbers.
+abbrev pub split_line : (log : Journal) (c actor s sh hash : ℕ) → Line
+split_line log c actor s sh hash =
+    plain_line c actor (entry.Split s sh hash (next_number log s) (length (shards log s)) (length (shards log s) + 1))
 
--- The line of a merge of the shards `sh` and `other` of stream `s`. It has the next sequence number of the stream and
--- the next shard number after the lines of `log`.
-abbrev pub merge_line : Journal → ℕ → ℕ → ℕ → ℕ → ℕ → Line
-merge_line log c by s sh other = plain_line c by (entry.Merged s sh other (next_number log s) (length (shards log s)))
+-- The line of a merge of two shards of stream `s`, with the stream's next numbers.
+abbrev pub merge_line : (log : Journal) (c actor s sh other : ℕ) → Line
+merge_line log c actor s sh other =
+    plain_line c actor (entry.Merged s sh other (next_number log s) (length (shards log s)))

@@ -13,31 +13,26 @@ use Rattle.kds_defs.specs.StreamCommands.{last_number}
 use Rattle.kds_stream.specs.Value.{StreamValue}
 use Rattle.kds_stream_logs.specs.Steps.{starts_in}
 
--- Whether `target` open shards are more than the `open_limit` shards that may be open.
-abbrev pub is_over : ℕ → ℕ → Bool
+-- Whether `target` open shards are more than may be open.
+abbrev pub is_over : (target open_limit : ℕ) → Bool
 is_over target open_limit = nat_lt open_limit target
 
--- Whether the steps of a scaling use up the sequence numbers or the shard numbers. Before the steps, the next sequence
--- number is `next`, and there are `count` shards. The numbers are used up if one of the two would rise above the
--- greatest `u64`.
-abbrev pub are_spent : ℕ → ℕ → List ScaleStep → Bool
+-- Whether the steps would raise the sequence numbers or the number of shards above the greatest `u64`.
+abbrev pub are_spent : (next count : ℕ) (steps : List ScaleStep) → Bool
 are_spent next count steps = nat_lt last_number (next + length steps) || nat_lt last_number (count + made_by steps)
 
--- The steps `steps` are those of a scaling of the stream `v` to `target` shards. They lead from the ranges of the
--- stream's open shards to uniform ranges, and the sequence numbers and shard numbers suffice for the steps.
+-- The steps lead from the stream's ranges to `target` uniform ranges, and its numbers suffice for them.
 pub record IsPlan (v : StreamValue) (target : ℕ) (steps : List ScaleStep) : Type 0 where
   pub are : steps ≡ scale (starts_in v.tree) target
   pub leads : LeadTo steps (starts_in v.tree) (uniform_starts target)
   pub unspent : are_spent v.next (length v.tree) steps ≡ false
 
--- The decision on UpdateShardCount, which scales the live stream `s` with the name `name` to `target` shards. It is a
--- refusal if more shards would be open than may be (`full`), or if the sequence numbers or shard numbers don't suffice
--- for the steps.
-abbrev pub scale_where : Bool → Journal → ℕ → ℕ → List ℕ → ℕ → ℕ → Decision
-scale_where full log c by name s target =
+-- The decision on UpdateShardCount; `full` says that more shards would be open than may be.
+abbrev pub scale_where : (full : Bool) (log : Journal) (c actor : ℕ) (name : List ℕ) (s target : ℕ) → Decision
+scale_where full log c actor name s target =
     refuse refusal.Full if full else
     refuse refusal.Spent if nat_lt last_number (next_number log s + length (steps_to log s target))
     || nat_lt last_number (length (shards log s) + made_by (steps_to log s target)) else
-    Accepted (step_lines log c by s (steps_to log s target))
+    Accepted (step_lines log c actor s (steps_to log s target))
     (reply.Scaled name (length (open_shards log s)) target
-    (map (λ line. line.what) (step_lines log c by s (steps_to log s target))))
+    (map (λ line. line.what) (step_lines log c actor s (steps_to log s target))))

@@ -79,8 +79,8 @@ impl Stream {
         shards: u32,
     ) -> Result<Stream, Memory>
         requires { IsShardCount shards }
-        ensures shows { (log : Journal) (by : ℕ) → IsFresh log no
-            → IfOk result (λ v. Shows v (plain_line made_at by (entry.Made no name shards) ∷ log)) }
+        ensures shows { (log : Journal) (actor : ℕ) → IsFresh log no
+            → IfOk result (λ v. Shows v (plain_line made_at actor (entry.Made no name shards) ∷ log)) }
         ensures fields { IfOk result (λ v. (v.no ≡ no) × (v.name ≡ name) × (v.clock ≡ made_at)) }
         ensures made_at { IfOk result (λ v. v.made_at ≡ made_at) }
         ensures hours { IfOk result (λ v. v.hours ≡ FIRST_HOURS) }

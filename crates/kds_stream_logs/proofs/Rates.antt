@@ -1,4 +1,4 @@
--- The windows of a stream's shards stand for the puts of the shards, and still do after a put is counted.
+-- The windows of shards stand for their puts, also after a put is counted.
 use Rattle.std.proofs.Common.{◌≡◌, ℕ, zero, suc, ◌+◌, ◌<◌, ◌≤◌, false, List, [], ◌∷◌, length, get_or, sym, ap, subst}
 use Rattle.std.proofs.Common.{◌∙◌, arith}
 use Rattle.std.specs.Prelude.{◌==◌, if◌then◌else◌, slice_set}
@@ -11,8 +11,6 @@ use Rattle.kds_stream_logs.specs.Rating.{IsCounted, StandFor, with_put}
 
 -- ---- The window at an index
 
--- If the windows stand for the puts `f` of the shards from `n` on, the window at the index `i` stands for the puts of
--- shard `n + i`.
 pub stand_at : (f : ℕ → List SizedPut) (n i : ℕ) (ws : List WindowValue) (d : WindowValue) → i < length ws
     → StandFor f n ws → StandsFor (get_or ws i d) (f (n + i))
 stand_at f n i [] d below h = absurd (omega arith)
@@ -20,14 +18,11 @@ stand_at f n zero (w ∷ ws) d below h = let e : n ≡ n + 0 = omega arith in su
 stand_at f n (suc i) (w ∷ ws) d below h = let e : n + 1 + i ≡ n + suc i = omega arith in
     subst (λ k. StandsFor (get_or ws i d) (f k)) e (stand_at f (n + 1) i ws d (omega arith) h.1)
 
--- If the windows stand for the puts `f` of the shards from 0 on, the window at the index `i` stands for the puts of
--- shard `i`.
 pub stand_here : (f : ℕ → List SizedPut) (i : ℕ) (ws : List WindowValue) (d : WindowValue) → i < length ws
     → StandFor f 0 ws → StandsFor (get_or ws i d) (f i)
 stand_here f i ws d below h = let e : 0 + i ≡ i = omega arith in
     subst (λ k. StandsFor (get_or ws i d) (f k)) e (stand_at f 0 i ws d below h)
 
--- If no window counts a put that is later than `moment`, the window at the index `i` counts no such put.
 pub counted_at : (moment i : ℕ) (ws : List WindowValue) (d : WindowValue) → i < length ws
     → AllByRecursion (IsCounted moment) ws → IsCounted moment (get_or ws i d)
 counted_at moment i [] d below h = absurd (omega arith)
@@ -36,8 +31,6 @@ counted_at moment (suc i) (w ∷ ws) d below h = counted_at moment i ws d (omega
 
 -- ---- The same puts, given by another function
 
--- If the windows stand for the puts `f` of the shards from `n` on, and `g` gives each of these shards the same puts,
--- the windows stand for `g`.
 pub stand_along : (f g : ℕ → List SizedPut) (n : ℕ) (ws : List WindowValue) → ((sh : ℕ) → n ≤ sh → f sh ≡ g sh)
     → StandFor f n ws → StandFor g n ws
 stand_along f g n [] same h = tt
@@ -51,31 +44,27 @@ stand_along f g n (w ∷ ws) same h = (
 other_number : (n m : ℕ) → n < m → (n == m) ≡ false
 other_number n m h = grind (arith, nat_tests, h)
 
--- `with_put` adds the put `p` in shard `sh` to the puts of shard `n`, if `sh` is `n`.
 pub put_here : (sh n : ℕ) (p : SizedPut) (f : ℕ → List SizedPut) → sh ≡ n → p ∷ f n ≡ with_put sh p f n
 put_here sh n p f is = ap (λ b. if b then p ∷ f n else f n) (sym (is_equal sh n is))
 
--- `with_put` adds the put `p` in shard `sh` to no other shard: if `sh` isn't `n`, the puts of shard `n` are unchanged.
 pub put_elsewhere : (sh n : ℕ) (p : SizedPut) (f : ℕ → List SizedPut) → (sh == n) ≡ false → f n ≡ with_put sh p f n
 put_elsewhere sh n p f is = ap (λ b. if b then p ∷ f n else f n) (sym is)
 
 higher_number : (n m : ℕ) → m < n → (n == m) ≡ false
 higher_number n m h = grind (arith, nat_tests, h)
 
--- Let the windows stand for the puts `f` of the shards from `n` on. Let a window that also counts the put `p` take the
--- place of the window at the index `i`. Then the windows stand for `f` with `p` added in `at`, the shard of this
--- window.
-pub stand_set : (f : ℕ → List SizedPut) (n i at : ℕ) (ws : List WindowValue) (w : WindowValue) (p : SizedPut)
-    → at ≡ n + i → i < length ws → StandsFor w (p ∷ f at) → StandFor f n ws
-    → StandFor (with_put at p f) n (slice_set ws i w)
-stand_set f n i at [] w p is below stands h = tt
-stand_set f n zero at (x ∷ ws) w p is below stands h =
-    let e : at ≡ n = omega arith in (
-      subst (StandsFor w) (ap (λ k. p ∷ f k) e ∙ put_here at n p f e) stands,
-      stand_along f (with_put at p f) (n + 1) ws
-          (λ sh beyond. put_elsewhere at sh p f (other_number at sh (omega arith))) h.1,
+-- A window that also counts `p` makes the windows stand for the puts with `p` added in its shard.
+pub stand_set : (f : ℕ → List SizedPut) (n i moment : ℕ) (ws : List WindowValue) (w : WindowValue) (p : SizedPut)
+    → moment ≡ n + i → i < length ws → StandsFor w (p ∷ f moment) → StandFor f n ws
+    → StandFor (with_put moment p f) n (slice_set ws i w)
+stand_set f n i moment [] w p is below stands h = tt
+stand_set f n zero moment (x ∷ ws) w p is below stands h =
+    let e : moment ≡ n = omega arith in (
+      subst (StandsFor w) (ap (λ k. p ∷ f k) e ∙ put_here moment n p f e) stands,
+      stand_along f (with_put moment p f) (n + 1) ws
+          (λ sh beyond. put_elsewhere moment sh p f (other_number moment sh (omega arith))) h.1,
     )
-stand_set f n (suc i) at (x ∷ ws) w p is below stands h = (
-  subst (StandsFor x) (put_elsewhere at n p f (higher_number at n (omega arith))) h.0,
-  stand_set f (n + 1) i at ws w p (omega arith) (omega arith) stands h.1,
+stand_set f n (suc i) moment (x ∷ ws) w p is below stands h = (
+  subst (StandsFor x) (put_elsewhere moment n p f (higher_number moment n (omega arith))) h.0,
+  stand_set f (n + 1) i moment ws w p (omega arith) (omega arith) stands h.1,
 )

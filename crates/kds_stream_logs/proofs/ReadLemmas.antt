@@ -1,5 +1,4 @@
--- The last shard of a page, the sequence numbers of a batch and the first record since a moment are as the definitions
--- say.
+-- The last shard of a page, the numbers of a batch, and the first record since a moment.
 use Rattle.std.proofs.Common.{◌≡◌, ℕ, zero, suc, ◌-◌, ◌<◌, Bool, true, false, List, [], ◌∷◌, length, map, Option, Some}
 use Rattle.std.proofs.Common.{None, sym, ap, ◌∙◌, arith}
 use Rattle.std.specs.Prelude.{cond, slice_get, nat_le, if◌then◌else◌}
@@ -10,16 +9,13 @@ use Rattle.kds_defs.specs.declared.reply.Stored.{Stored}
 use Rattle.kds_defs.specs.declared.limits.TheConstants.{BATCH_BYTES}
 use Rattle.kds_defs.specs.Listings.{last_no}
 use Rattle.kds_defs.specs.Records.{Logged, beginning, first_at, is_left, stored}
+use Rattle.kds_defs.proofs.LastPlaces.{one_less}
 use Rattle.kds_log.specs.Log.{IsOrderly, IsUpTo, LogValue, first_number, since}
 use Rattle.kds_stream_logs.specs.Batches.{batch_among}
 use Rattle.kds_stream_logs.specs.Logs.{IsBelow, IsUnder}
 
 -- ---- The last shard of a page
 
-one_less : (n : ℕ) → suc (suc n) - 1 ≡ suc (suc n - 1)
-one_less n = omega arith
-
--- The shard at the last index of a page has the number that `last_no` gives.
 pub last_shard : (shards : List Shard) (shard : Shard) → slice_get shards (length shards - 1) ≡ Some shard
     → shard.no ≡ last_no shards
 last_shard [] shard is = absurd cc
@@ -33,12 +29,13 @@ all_beginning : (P : Logged → Type 0) (limit room : ℕ) (rs : List Logged) �
     → AllByRecursion P (beginning limit room rs)
 all_beginning P zero room rs h = tt
 all_beginning P (suc limit) room [] h = tt
-all_beginning P (suc limit) room (r ∷ rs) h = by (nat_le r.bytes room) (all_beginning P limit (room - r.bytes) rs h.1)
+all_beginning P (suc limit) room (r ∷ rs) h =
+    cases (nat_le r.bytes room) (all_beginning P limit (room - r.bytes) rs h.1)
   where
-    by : (b : Bool) → AllByRecursion P (beginning limit (room - r.bytes) rs)
+    cases : (b : Bool) → AllByRecursion P (beginning limit (room - r.bytes) rs)
         → AllByRecursion P (if b then r ∷ beginning limit (room - r.bytes) rs else [])
-    by true g = (h.0, g)
-    by false g = tt
+    cases true g = (h.0, g)
+    cases false g = tt
 
 all_stored : (n : ℕ) (rs : List Logged) → AllByRecursion (λ (r : Logged). r.seq < n) rs
     → AllByRecursion (λ (r : Stored). r.seq < n) (map stored rs)
@@ -49,7 +46,7 @@ up_to_below : (n : ℕ) (last : Option ℕ) (r : Logged) → IsUnder n last → 
 up_to_below n None r under up = absurd up
 up_to_below n (Some m) r under up = omega arith
 
--- If all sequence numbers of a log are below `n`, so are those of the records in its batches.
+-- The numbers in a batch are below every bound of the log's numbers.
 pub batch_below : (n floor position limit : ℕ) (l : LogValue) → IsBelow n l → IsOrderly l
     → AllByRecursion (λ (r : Stored). r.seq < n) (map stored (batch_among floor position limit l.kept))
 batch_below n floor position limit l below orderly =
@@ -60,7 +57,7 @@ batch_below n floor position limit l below orderly =
 
 -- ---- The first record that arrived at or after a moment
 
--- The number in the option, or `next` if there is none.
+-- The number, or `next` if there is none.
 abbrev pub or_next : Option ℕ → ℕ → ℕ
 or_next None next = next
 or_next (Some n) next = n
@@ -72,8 +69,6 @@ first_by : (b : Bool) (r : Logged) (rs : List Logged) (moment next : ℕ) (o : O
 first_by true r rs moment next o is rest = ap (λ x. or_next x next) is
 first_by false r rs moment next o is rest = rest is
 
--- Let `o` be the number of the first record that arrived at or after `moment`, if there is one. Then this number, or
--- else `next`, is what `first_at` gives.
 pub first_is : (rs : List Logged) (moment next : ℕ) (o : Option ℕ) → o ≡ first_number (since moment rs)
     → or_next o next ≡ first_at rs moment next
 first_is [] moment next o is = ap (λ x. or_next x next) is

@@ -1,5 +1,4 @@
--- The items of a request are routed one after another, memory is reserved for their records, and then the logs of the
--- shards take these records.
+-- Items are routed one after another, memory is reserved for their records, and the logs take them.
 use Rattle.std.proofs.Common.{◌≡◌, ◌≢◌, ℕ, zero, suc, ◌+◌, ◌^◌, ◌<◌, ◌≤◌, Bool, true, false, List, [], ◌∷◌, ◌++◌}
 use Rattle.std.proofs.Common.{length, get_or, take, map, Some, refl, sym, ap, subst, ◌∙◌, arith}
 use Rattle.std.specs.Prelude.{◌==◌, cond, slice_set, if◌then◌else◌}
@@ -43,17 +42,15 @@ reserved_here [] i l below = absurd (omega arith)
 reserved_here (x ∷ ls) zero l below = refl
 reserved_here (x ∷ ls) (suc i) l below = reserved_here ls i l (omega arith)
 
--- The memory that `reserved_at` gives is that of the log at the index `i`.
 pub reserved_is : (ls : List LogWithReserve) (i : ℕ) (d : LogWithReserve) → i < length ls
     → reserved_at ls i ≡ (get_or ls i d).reserved
 reserved_is [] i d below = absurd (omega arith)
 reserved_is (x ∷ ls) zero d below = refl
 reserved_is (x ∷ ls) (suc i) d below = reserved_is ls i d (omega arith)
 
--- In this module, memory for one more record is reserved in the log at the index `i`, which is the log of the place
--- `p`. Before this, memory was reserved for the first `k` places.
+-- Here memory for one more record is reserved at `i`, after the first `k` places.
 module _ (ls : List LogWithReserve) (i : ℕ) (d l : LogWithReserve) (ps : List Place) (k : ℕ) (p : Place)
-    (below : i < length ls) (at : i ≡ p.shard) (grows : l.reserved ≡ (get_or ls i d).reserved + 1)
+    (below : i < length ls) (is_at : i ≡ p.shard) (grows : l.reserved ≡ (get_or ls i d).reserved + 1)
     (within : k < length ps)
     (is : p ≡ get_or ps k p)
     (had : (sh : ℕ) → count_by (is_place_of sh) (take k ps) ≤ reserved_at ls sh) (sh : ℕ) where
@@ -65,8 +62,8 @@ module _ (ls : List LogWithReserve) (i : ℕ) (d l : LogWithReserve) (ps : List 
   reserved_by : (b : Bool) → (p.shard == sh) ≡ b
       → count_by (is_place_of sh) (take (k + 1) ps) ≤ reserved_at (slice_set ls i l) sh
   reserved_by true e =
-      let same : i ≡ sh = at ∙ equal_so p.shard sh e in
-      let before : count_by (is_place_of sh) (take k ps) ≤ reserved_at ls i =
+      let same : i ≡ sh = is_at ∙ equal_so p.shard sh e in
+      let is_before : count_by (is_place_of sh) (take k ps) ≤ reserved_at ls i =
       subst (λ n. count_by (is_place_of sh) (take k ps) ≤ reserved_at ls n) (sym same) (had sh) in
       subst (λ n. count_by (is_place_of sh) (take (k + 1) ps) ≤ reserved_at (slice_set ls i l) n) same
       (omega (
@@ -75,21 +72,19 @@ module _ (ls : List LogWithReserve) (i : ℕ) (d l : LogWithReserve) (ps : List 
         reserved_here ls i l below,
         reserved_is ls i d below,
         grows,
-        before,
+        is_before,
       ))
   reserved_by false e =
       omega (
         arith,
         more_places ∙ ap (λ c. count_by (is_place_of sh) (take k ps) + cond c 1 0) e,
         had sh,
-        reserved_other ls i sh l (λ same. differ_so p.shard sh e (sym at ∙ same)),
+        reserved_other ls i sh l (λ same. differ_so p.shard sh e (sym is_at ∙ same)),
       )
 
-  -- Then memory is reserved for the first `k + 1` places.
   pub reserved_more : count_by (is_place_of sh) (take (k + 1) ps) ≤ reserved_at (slice_set ls i l) sh
   reserved_more = reserved_by (p.shard == sh) refl
 
--- As many places of the records `rs` are in shard `sh` as records of `rs` go to this shard.
 count_routed : (rs : List Routed) (sh : ℕ) → count_by (is_place_of sh) (map place_of rs) ≡ count_by (is_routed_to sh) rs
 count_routed [] sh = refl
 count_routed (r ∷ rs) sh =
@@ -110,22 +105,21 @@ all_set P [] i l p h = tt
 all_set P (x ∷ ls) zero l p h = (p, h.1)
 all_set P (x ∷ ls) (suc i) l p h = (h.0, all_set P ls i l p h.1)
 
--- If the logs can take all of the records, the log of the first record's shard, at the index `i`, has memory reserved
--- for at least one record.
+-- Some memory is reserved for the first of the records that the logs can take.
 pub reserved_left : (ls : List LogWithReserve) (i : ℕ) (r : Routed) (rs : List Routed) → i ≡ r.shard
     → CanTakeAll ls (r ∷ rs)
     → 1 ≤ reserved_at ls i
-reserved_left ls i r rs at can =
+reserved_left ls i r rs is_at can =
     let counted : cond (r.shard == i) 1 0 + count_by (is_routed_to i) rs ≤ reserved_at ls i =
     subst (λ n. n ≤ reserved_at ls i) (sum_by-cons (λ (q : Routed). cond (is_routed_to i q) 1 0) r rs)
     (can.reserved i) in
     let had : cond true 1 0 + count_by (is_routed_to i) rs ≤ reserved_at ls i =
-    subst (λ c. cond c 1 0 + count_by (is_routed_to i) rs ≤ reserved_at ls i) (is_equal r.shard i (sym at)) counted in
+    subst (λ c. cond c 1 0 + count_by (is_routed_to i) rs ≤ reserved_at ls i) (is_equal r.shard i (sym is_at))
+    counted in
     omega arith
 
--- In this module, the record `r`, the first of those that the logs can take, is appended to the log at the index `i` of
--- its shard. This uses memory that was reserved.
-module _ (ls : List LogWithReserve) (i : ℕ) (d l : LogWithReserve) (r : Routed) (rs : List Routed) (at : i ≡ r.shard)
+-- Here the first of the records that the logs can take is appended, in memory that was reserved.
+module _ (ls : List LogWithReserve) (i : ℕ) (d l : LogWithReserve) (r : Routed) (rs : List Routed) (is_at : i ≡ r.shard)
     (below : i < length ls) (used : l.reserved + 1 ≡ (get_or ls i d).reserved)
     (is : log_of l ≡ record { kept = (get_or ls i d).kept ++ logged r.item ∷ []; last = Some r.item.seq })
     (can : CanTakeAll ls (r ∷ rs)) where
@@ -154,7 +148,7 @@ module _ (ls : List LogWithReserve) (i : ℕ) (d l : LogWithReserve) (r : Routed
   used_by : (sh : ℕ) (b : Bool) → (r.shard == sh) ≡ b
       → count_by (is_routed_to sh) rs ≤ reserved_at (slice_set ls i l) sh
   used_by sh true e =
-      let same : i ≡ sh = at ∙ equal_so r.shard sh e in
+      let same : i ≡ sh = is_at ∙ equal_so r.shard sh e in
       let had : cond true 1 0 + count_by (is_routed_to sh) rs ≤ reserved_at ls sh =
       subst (λ c. cond c 1 0 + count_by (is_routed_to sh) rs ≤ reserved_at ls sh) e (counted sh) in
       let had' : 1 + count_by (is_routed_to sh) rs ≤ reserved_at ls i =
@@ -164,9 +158,8 @@ module _ (ls : List LogWithReserve) (i : ℕ) (d l : LogWithReserve) (r : Routed
   used_by sh false e =
       let had : cond false 1 0 + count_by (is_routed_to sh) rs ≤ reserved_at ls sh =
       subst (λ c. cond c 1 0 + count_by (is_routed_to sh) rs ≤ reserved_at ls sh) e (counted sh) in
-      omega (arith, had, reserved_other ls i sh l (λ same. differ_so r.shard sh e (sym at ∙ same)))
+      omega (arith, had, reserved_other ls i sh l (λ same. differ_so r.shard sh e (sym is_at ∙ same)))
 
-  -- The logs can then take all of the other records (`CanTakeAll`).
   pub taken_one : CanTakeAll (slice_set ls i l) rs
   taken_one = record {
     each = all_both (IsSooner r) (CanTake (map log_of ls)) (CanTake (map log_of (slice_set ls i l)))
@@ -175,78 +168,76 @@ module _ (ls : List LogWithReserve) (i : ℕ) (d l : LogWithReserve) (r : Routed
     in_order = can.in_order.1;
   }
 
-  -- Appending the other records then gives what appending all records gives from the start.
   pub with_one : with_each rs (map log_of (slice_set ls i l)) ≡ with_each (r ∷ rs) (map log_of ls)
   with_one = ap (with_each rs) (appended_at ls i d l (logged r.item) below is
-      ∙ ap (λ n. with_appended n (logged r.item) (map log_of ls)) at)
+      ∙ ap (λ n. with_appended n (logged r.item) (map log_of ls)) is_at)
 
 -- ---- The items are routed one after another
 
--- In this module, the item `item`, the first of `items`, is routed. Before this, the routes are `r` and the windows are
--- `us`. After this, the routes are `q` and the windows are `ws`.
-module _ (xs : List ShardState) (c : ℕ) (on : Bool) (f : ℕ → List SizedPut) (n : ℕ) (whole items rest : List NewItem)
+-- Here the first of `items` is routed, from the routes `r` and windows `us` to `q` and `ws`.
+module _ (xs : List ShardState) (c : ℕ) (is_on : Bool) (f : ℕ → List SizedPut) (n : ℕ) (whole items rest : List NewItem)
     (item : NewItem) (r q : Routes) (us ws : List WindowValue) (are : items ≡ item ∷ rest)
-    (h : GoesOn xs c on f n whole items r us) (one : IsRouted xs c on h.present item r q ws) where
-  routed_by : (b : Bool) → is_throttled_item xs c on h.present item ≡ b
-      → q.routed.items ++ routed_items xs c q.next (taken xs c on (after_item xs c h.present item b) rest)
+    (h : GoesOn xs c is_on f n whole items r us) (one : IsRouted xs c is_on h.present item r q ws) where
+  routed_by : (b : Bool) → is_throttled_item xs c is_on h.present item ≡ b
+      → q.routed.items ++ routed_items xs c q.next (taken xs c is_on (after_item xs c h.present item b) rest)
       ≡ r.routed.items ++ routed_items xs c r.next
-      (if b then taken xs c on (after_item xs c h.present item b) rest else item
-      ∷ taken xs c on (after_item xs c h.present item b) rest)
+      (if b then taken xs c is_on (after_item xs c h.present item b) rest else item
+      ∷ taken xs c is_on (after_item xs c h.present item b) rest)
   routed_by true is =
       let same : q.routed.items ≡ r.routed.items =
       one.routed ∙ ap (λ d. if d then r.routed.items else r.routed.items ++ routed_item xs c r.next item ∷ []) is in
       let number : q.next ≡ r.next = one.next_is ∙ ap (after_number r.next) is in
-      ap (λ qs. qs ++ routed_items xs c q.next (taken xs c on h.present rest)) same
-      ∙ ap (λ k. r.routed.items ++ routed_items xs c k (taken xs c on h.present rest)) number
+      ap (λ qs. qs ++ routed_items xs c q.next (taken xs c is_on h.present rest)) same
+      ∙ ap (λ k. r.routed.items ++ routed_items xs c k (taken xs c is_on h.present rest)) number
   routed_by false is =
       let more : q.routed.items ≡ r.routed.items ++ routed_item xs c r.next item ∷ [] =
       one.routed ∙ ap (λ d. if d then r.routed.items else r.routed.items ++ routed_item xs c r.next item ∷ []) is in
       let number : q.next ≡ r.next + 1 = one.next_is ∙ ap (after_number r.next) is in
-      let ts : List NewItem = taken xs c on (after_item xs c h.present item false) rest in
+      let ts : List NewItem = taken xs c is_on (after_item xs c h.present item false) rest in
       ap (λ qs. qs ++ routed_items xs c q.next ts) more
       ∙ append_assoc r.routed.items (routed_item xs c r.next item ∷ []) (routed_items xs c q.next ts)
       ∙ ap (λ k. r.routed.items ++ routed_item xs c r.next item ∷ routed_items xs c k ts) number
 
-  number_by : (b : Bool) → is_throttled_item xs c on h.present item ≡ b
-      → q.next + length (taken xs c on (after_item xs c h.present item b) rest)
-      ≡ r.next + length (if b then taken xs c on (after_item xs c h.present item b) rest else item
-      ∷ taken xs c on (after_item xs c h.present item b) rest)
+  number_by : (b : Bool) → is_throttled_item xs c is_on h.present item ≡ b
+      → q.next + length (taken xs c is_on (after_item xs c h.present item b) rest)
+      ≡ r.next + length (if b then taken xs c is_on (after_item xs c h.present item b) rest else item
+      ∷ taken xs c is_on (after_item xs c h.present item b) rest)
   number_by true is = let number : q.next ≡ r.next = one.next_is ∙ ap (after_number r.next) is in
-      ap (λ k. k + length (taken xs c on h.present rest)) number
+      ap (λ k. k + length (taken xs c is_on h.present rest)) number
   number_by false is = let number : q.next ≡ r.next + 1 = one.next_is ∙ ap (after_number r.next) is in
       omega (arith, number)
 
-  -- If `GoesOn` holds before the item is routed, it still holds afterwards, with `rest` as the items that are left.
-  pub goes_on : GoesOn xs c on f n whole rest q ws
+  pub goes_on : GoesOn xs c is_on f n whole rest q ws
   goes_on = record {
-    present = after_item xs c h.present item (is_throttled_item xs c on h.present item);
+    present = after_item xs c h.present item (is_throttled_item xs c is_on h.present item);
     stand = one.stand;
-    after = λ sh. ap (λ ys. after_items xs c on h.present ys sh) (sym are) ∙ h.after sh;
-    routed = routed_by (is_throttled_item xs c on h.present item) refl
-        ∙ ap (λ ys. r.routed.items ++ routed_items xs c r.next (taken xs c on h.present ys)) (sym are) ∙ h.routed;
+    after = λ sh. ap (λ ys. after_items xs c is_on h.present ys sh) (sym are) ∙ h.after sh;
+    routed = routed_by (is_throttled_item xs c is_on h.present item) refl
+        ∙ ap (λ ys. r.routed.items ++ routed_items xs c r.next (taken xs c is_on h.present ys)) (sym are) ∙ h.routed;
     outcomes_are =
-        ap (λ os. os ++ outcomes xs c on (after_item xs c h.present item (is_throttled_item xs c on h.present item))
+        ap (λ os. os ++ outcomes xs c is_on
+        (after_item xs c h.present item (is_throttled_item xs c is_on h.present item))
         q.next rest)
         one.outcomes_are
-        ∙ append_assoc r.outcomes (outcome_of xs r.next item (is_throttled_item xs c on h.present item) ∷ [])
-        (outcomes xs c on (after_item xs c h.present item (is_throttled_item xs c on h.present item)) q.next rest)
-        ∙ ap (λ k. r.outcomes ++ outcome_of xs r.next item (is_throttled_item xs c on h.present item)
-        ∷ outcomes xs c on (after_item xs c h.present item (is_throttled_item xs c on h.present item)) k rest)
+        ∙ append_assoc r.outcomes (outcome_of xs r.next item (is_throttled_item xs c is_on h.present item) ∷ [])
+        (outcomes xs c is_on (after_item xs c h.present item (is_throttled_item xs c is_on h.present item)) q.next rest)
+        ∙ ap (λ k. r.outcomes ++ outcome_of xs r.next item (is_throttled_item xs c is_on h.present item)
+        ∷ outcomes xs c is_on (after_item xs c h.present item (is_throttled_item xs c is_on h.present item)) k rest)
         one.next_is
-        ∙ ap (λ ys. r.outcomes ++ outcomes xs c on h.present r.next ys) (sym are)
+        ∙ ap (λ ys. r.outcomes ++ outcomes xs c is_on h.present r.next ys) (sym are)
         ∙ h.outcomes_are;
-    next_is = number_by (is_throttled_item xs c on h.present item) refl
-        ∙ ap (λ ys. r.next + length (taken xs c on h.present ys)) (sym are) ∙ h.next_is;
+    next_is = number_by (is_throttled_item xs c is_on h.present item) refl
+        ∙ ap (λ ys. r.next + length (taken xs c is_on h.present ys)) (sym are) ∙ h.next_is;
   }
 
--- If no item is left, the routes are those of all items (`AreRouted`).
-pub routed_all : (xs : List ShardState) (c : ℕ) (on : Bool) (f : ℕ → List SizedPut) (n : ℕ) (whole items : List NewItem)
-    (r : Routes) (ws : List WindowValue) → items ≡ [] → GoesOn xs c on f n whole items r ws
-    → AreRouted xs c on f n whole r ws
-routed_all xs c on f n whole items r ws none h =
-    let h' : GoesOn xs c on f n whole [] r ws = subst (λ ys. GoesOn xs c on f n whole ys r ws) none h in
+pub routed_all : (xs : List ShardState) (c : ℕ) (is_on : Bool) (f : ℕ → List SizedPut) (n : ℕ)
+    (whole items : List NewItem)
+    (r : Routes) (ws : List WindowValue) → items ≡ [] → GoesOn xs c is_on f n whole items r ws
+    → AreRouted xs c is_on f n whole r ws
+routed_all xs c is_on f n whole items r ws none h =
+    let h' : GoesOn xs c is_on f n whole [] r ws = subst (λ ys. GoesOn xs c is_on f n whole ys r ws) none h in
     record {
-      stand = stand_along h'.present (after_items xs c on f whole) 0 ws (λ sh any. h'.after sh) h'.stand;
+      stand = stand_along h'.present (after_items xs c is_on f whole) 0 ws (λ sh any. h'.after sh) h'.stand;
       routed = sym (append-nil r.routed.items) ∙ h'.routed;
       outcomes_are = sym (append-nil r.outcomes) ∙ h'.outcomes_are;
       next_is = omega (arith, h'.next_is);
@@ -265,8 +256,6 @@ routed-append xs c n (x ∷ items) item =
     ap (λ (rs : List Routed). routed_item xs c n x ∷ rs) (routed-append xs c (n + 1) items item
     ∙ ap (λ k. routed_items xs c (n + 1) items ++ routed_item xs c k item ∷ []) e)
 
--- If routes have no records and no places, and their next sequence number is `n`, then `AreOfRecords` holds of them
--- with no items.
 pub placed_none : (xs : List ShardState) (c n : ℕ) (r : Routes) → r.routed.items ≡ [] → r.places ≡ [] → r.next ≡ n
     → n < 2 ^ 64 → AreOfRecords xs c n r
 placed_none xs c n r none no_place number below = record {
@@ -278,8 +267,6 @@ placed_none xs c n r none no_place number below = record {
   places_are = no_place ∙ ap (map place_of) (sym none);
 }
 
--- Let the routes `q` have the same records, places and next sequence number as the routes `r`. If `AreOfRecords` holds
--- of `r`, it holds of `q`.
 pub placed_same : (xs : List ShardState) (c n : ℕ) (r q : Routes) → q.routed.items ≡ r.routed.items
     → q.places ≡ r.places → q.next ≡ r.next → AreOfRecords xs c n r → AreOfRecords xs c n q
 placed_same xs c n r q same there number placed = record {
@@ -291,13 +278,11 @@ placed_same xs c n r q same there number placed = record {
   places_are = there ∙ placed.places_are ∙ ap (map place_of) (sym same);
 }
 
--- Let the routes `q` be `r` with the record of one more item and its place added, and one more number drawn. If
--- `AreOfRecords` holds of `r`, it holds of `q`.
 pub placed_more : (xs : List ShardState) (c n sh : ℕ) (r q : Routes) (item : NewItem)
     → sh ≡ home_among (filter is_open xs) item.hash → q.routed.items ≡ r.routed.items ++ stored_item sh c r.next item
     ∷ [] → q.places ≡ r.places ++ place_of (stored_item sh c r.next item) ∷ [] → q.next ≡ r.next + 1 → q.next < 2 ^ 64
     → sh < length xs → AreOfRecords xs c n r → AreOfRecords xs c n q
-placed_more xs c n sh r q item at more there number fits inside placed =
+placed_more xs c n sh r q item is_at more there number fits inside placed =
     let x : Routed = stored_item sh c r.next item in
     let many : length (placed.items ++ item ∷ []) ≡ length placed.items + 1 = length-append placed.items (item ∷ []) in
     record {
@@ -305,7 +290,7 @@ placed_more xs c n sh r q item at more there number fits inside placed =
       are =
           more
           ∙ ap (λ rs. rs ++ x ∷ []) placed.are
-          ∙ ap (λ k. routed_items xs c n placed.items ++ stored_item k c r.next item ∷ []) at
+          ∙ ap (λ k. routed_items xs c n placed.items ++ stored_item k c r.next item ∷ []) is_at
           ∙ ap (λ k. routed_items xs c n placed.items ++ routed_item xs c k item ∷ []) placed.next_is
           ∙ sym (routed-append xs c n placed.items item);
       next_is = omega (arith, number, placed.next_is, many);
@@ -316,52 +301,48 @@ placed_more xs c n sh r q item at more there number fits inside placed =
           ∙ ap (map place_of) (sym more);
     }
 
--- If the routes have no records and no outcomes, and all items are left to be routed, `GoesOn` holds.
-pub routed_none : (xs : List ShardState) (c : ℕ) (on : Bool) (f : ℕ → List SizedPut) (n : ℕ) (whole : List NewItem)
+pub routed_none : (xs : List ShardState) (c : ℕ) (is_on : Bool) (f : ℕ → List SizedPut) (n : ℕ) (whole : List NewItem)
     (r : Routes) (ws : List WindowValue) → r.routed.items ≡ [] → r.outcomes ≡ [] → r.next ≡ n → StandFor f 0 ws
-    → GoesOn xs c on f n whole whole r ws
-routed_none xs c on f n whole r ws no_routed no_outcomes number stand = record {
+    → GoesOn xs c is_on f n whole whole r ws
+routed_none xs c is_on f n whole r ws no_routed no_outcomes number stand = record {
   present = f;
   stand = stand;
   after = λ sh. refl;
-  routed = ap (λ qs. qs ++ routed_items xs c r.next (taken xs c on f whole)) no_routed
-      ∙ ap (λ k. routed_items xs c k (taken xs c on f whole)) number;
-  outcomes_are = ap (λ os. os ++ outcomes xs c on f r.next whole) no_outcomes
-      ∙ ap (λ k. outcomes xs c on f k whole) number;
-  next_is = ap (λ k. k + length (taken xs c on f whole)) number;
+  routed = ap (λ qs. qs ++ routed_items xs c r.next (taken xs c is_on f whole)) no_routed
+      ∙ ap (λ k. routed_items xs c k (taken xs c is_on f whole)) number;
+  outcomes_are = ap (λ os. os ++ outcomes xs c is_on f r.next whole) no_outcomes
+      ∙ ap (λ k. outcomes xs c is_on f k whole) number;
+  next_is = ap (λ k. k + length (taken xs c is_on f whole)) number;
 }
 
--- The sequence number of the record `r` isn't below `first`, and `r` arrives at the time `clock`.
+-- The record has a number from `first` on, and arrives at the time `clock`.
 pub record IsFrom (first clock : ℕ) (r : Routed) : Type 0 where
   pub number : first ≤ r.item.seq
   pub arrival : r.item.arrival ≡ clock
 
--- If `first` isn't above `n`, the records of items with sequence numbers from `n` on have numbers that aren't below
--- `first`, and arrive at the time `clock`.
 pub all_from : (xs : List ShardState) (clock first n : ℕ) (items : List NewItem) → first ≤ n
     → AllByRecursion (IsFrom first clock) (routed_items xs clock n items)
 all_from xs clock first n [] le = tt
 all_from xs clock first n (item ∷ items) le =
     (record { number = le; arrival = refl }, all_from xs clock first (n + 1) items (omega arith))
 
--- The records of items with sequence numbers from `n` on are in the order of their numbers and times.
+-- Routed items are in the order of their numbers and times.
 pub turns : (xs : List ShardState) (clock n : ℕ) (items : List NewItem)
     → AreRoutedInOrder (routed_items xs clock n items)
 turns xs clock n [] = tt
 turns xs clock n (item ∷ items) = (
   all_weaker (IsFrom (n + 1) clock) (IsSooner (routed_item xs clock n item))
-      (λ q from. (omega (arith, from.number), omega (arith, from.arrival))) (routed_items xs clock (n + 1) items)
+      (λ q is_from. (omega (arith, is_from.number), omega (arith, is_from.arrival)))
+      (routed_items xs clock (n + 1) items)
       (all_from xs clock (n + 1) (n + 1) items (omega arith)),
   turns xs clock (n + 1) items,
 )
 
--- If each record goes to one of the shards 0 to `count - 1`, the place of each record is in one of these shards.
 pub all_places : (count : ℕ) (rs : List Routed) → AllByRecursion (IsWithin count) rs
     → AllByRecursion (λ (p : Place). p.shard < count) (map place_of rs)
 all_places count [] h = tt
 all_places count (r ∷ rs) h = (h.0, all_places count rs h.1)
 
--- If each record may be appended to the logs (`CanTake`), its place is in a shard that has a log.
 pub places_within : (ls : List LogWithReserve) (rs : List Routed) (ps : List Place) → ps ≡ map place_of rs
     → AllByRecursion (CanTake (map log_of ls)) rs → AllByRecursion (λ (p : Place). p.shard < length ls) ps
 places_within ls rs ps placed can =
@@ -370,12 +351,10 @@ places_within ls rs ps placed can =
     (all_weaker (CanTake (map log_of ls)) (IsWithin (length ls))
     (λ r take. omega (arith, take.within, as_many_logs ls)) rs can))
 
--- If each record may be appended to the logs, the records are in order, and memory is reserved for all their places,
--- the logs can take all records (`CanTakeAll`).
-pub can_take_all : (before : List LogValue) (ls : List LogWithReserve) (rs : List Routed) (ps : List Place)
-    → ps ≡ map place_of rs → map log_of ls ≡ before → AllByRecursion (CanTake before) rs → AreRoutedInOrder rs
+pub can_take_all : (old : List LogValue) (ls : List LogWithReserve) (rs : List Routed) (ps : List Place)
+    → ps ≡ map place_of rs → map log_of ls ≡ old → AllByRecursion (CanTake old) rs → AreRoutedInOrder rs
     → ((sh : ℕ) → count_by (is_place_of sh) ps ≤ reserved_at ls sh) → CanTakeAll ls rs
-can_take_all before ls rs ps placed same can turns reserved = record {
+can_take_all old ls rs ps placed same can turns reserved = record {
   each = subst (λ (ms : List LogValue). AllByRecursion (CanTake ms) rs) (sym same) can;
   reserved = λ sh. subst (λ n. n ≤ reserved_at ls sh) (ap (count_by (is_place_of sh)) placed ∙ count_routed rs sh)
       (reserved sh);
@@ -384,6 +363,5 @@ can_take_all before ls rs ps placed same can turns reserved = record {
 
 -- ---- Shards that exist and others
 
--- If `n` is below `len`, the number of shards, and `sh` isn't below it, then `n` isn't `sh`.
 pub apart : (n sh len : ℕ) → n < len → len ≤ sh → n ≡ sh → ⊥
 apart n sh len within beyond e = omega arith

@@ -1,5 +1,4 @@
--- Finding the first field of a text (the part before its first colon), and the bytes of which the fields of a token
--- consist.
+-- The first field of a text is found, and the fields of tokens are bytes without colons.
 use Rattle.std.proofs.Common.{◌≡◌, ℕ, zero, suc, ◌+◌, ◌<◌, ◌^◌, List, length, [], ◌∷◌, ◌++◌, take, drop, Bool, true}
 use Rattle.std.proofs.Common.{false, Option, Some, None, refl, ap, ◌∙◌, arith, decimal, inl, inr, subst}
 use Rattle.std.proofs.lemmas.Grind.{common_steps}
@@ -12,7 +11,6 @@ use Rattle.kds_base.proofs.NumberLemmas.{own}
 use Rattle.memchr.specs.Find.{NoneBefore, Passes, is_byte}
 use Rattle.kds_token.specs.Fields.{◌>>=◌, field, HasNoColon}
 
--- If `a` has no colon, the first field of `a`, a colon and `b` is `a`, and the rest is `b`.
 pub field_at : (a b : List ℕ) → HasNoColon a → field (a ++ 58 ∷ b) ≡ Some (a, b)
 field_at [] b n = refl
 field_at (x ∷ a) b n = rw (n.0, field_at a b n.1) refl
@@ -25,26 +23,23 @@ other_byte b differs = elim (cases_Bool (b == 58)) [
   | inr other ↦ other
 ]
 
-found_at : (text : List ℕ) (at : ℕ) → at < length text → ((k : ℕ) → k < at → Passes (is_byte 58) text k → ⊥)
-    → Passes (is_byte 58) text at → field text ≡ Some (take at text, drop (suc at) text)
-found_at [] at within before here = absurd (omega arith)
-found_at (b ∷ bs) zero within before here = rw here refl
-found_at (b ∷ bs) (suc at) within before here =
+found_at : (text : List ℕ) (index : ℕ) → index < length text → ((k : ℕ) → k < index → Passes (is_byte 58) text k → ⊥)
+    → Passes (is_byte 58) text index → field text ≡ Some (take index text, drop (suc index) text)
+found_at [] index within is_before here = absurd (omega arith)
+found_at (b ∷ bs) zero within is_before here = rw here refl
+found_at (b ∷ bs) (suc index) within is_before here =
     rw (
-      other_byte b (before 0 (omega arith)),
-      found_at bs at (omega arith) (λ k lt. before (suc k) (omega arith)) here,
+      other_byte b (is_before 0 (omega arith)),
+      found_at bs index (omega arith) (λ k lt. is_before (suc k) (omega arith)) here,
     ) refl
 
--- If the first colon of a text is at the index `at`, the first field is the part before this index, and the rest is the
--- part after this index.
-pub field_found : (text : List ℕ) (at : ℕ) → NoneBefore (Passes (is_byte 58) text) 0 (length text) at
-    × Passes (is_byte 58) text at → field text ≡ Some (take at text, drop (at + 1) text)
-field_found text at found =
-    let next : suc at ≡ at + 1 = omega arith in
-    found_at text at found.0.high (λ k lt. found.0.before k (omega arith) lt) found.1
-    ∙ ap (λ n. Some (take at text, drop n text)) next
+pub field_found : (text : List ℕ) (index : ℕ) → NoneBefore (Passes (is_byte 58) text) 0 (length text) index
+    × Passes (is_byte 58) text index → field text ≡ Some (take index text, drop (index + 1) text)
+field_found text index found =
+    let next : suc index ≡ index + 1 = omega arith in
+    found_at text index found.0.high (λ k lt. found.0.before k (omega arith) lt) found.1
+    ∙ ap (λ n. Some (take index text, drop n text)) next
 
--- If a text has no colon, it has no first field.
 pub field_nowhere : (text : List ℕ) → ((k : ℕ) → k < length text → Passes (is_byte 58) text k → ⊥) → field text ≡ None
 field_nowhere [] nowhere = refl
 field_nowhere (b ∷ bs) nowhere =
@@ -52,7 +47,7 @@ field_nowhere (b ∷ bs) nowhere =
 
 -- ---- A text is its first field, a colon and the rest
 
--- The text is the first part of `p`, which has no colon, followed by a colon and the second part of `p`.
+-- The text is the first part of `p`, which has no colon, then a colon and the second part.
 abbrev pub IsField : List ℕ → List ℕ × List ℕ → Type 0
 IsField text p = (text ≡ p.0 ++ 58 ∷ p.1) × HasNoColon p.0
 
@@ -75,15 +70,12 @@ field_cases true b bs p c rest e =
     subst (λ (z : List ℕ × List ℕ). IsField (b ∷ bs) z) same (ap (λ z. z ∷ bs) colon, tt)
 field_cases false b bs p c rest e = field_rest b bs (field bs) p c rest e
 
--- If `p` is the first field of a text and the rest, then the text is this field, a colon and this rest, and the field
--- has no colon (`IsField`).
 pub field_spells : (text : List ℕ) (p : List ℕ × List ℕ) → field text ≡ Some p → IsField text p
 field_spells [] p e = absurd (cc)
 field_spells (b ∷ bs) p e = field_cases (b == 58) b bs p refl (field_spells bs) e
 
 -- ---- Steps that may fail
 
--- If `o >>= f` has the value `y`, the option `o` has a value `x`, and `f x` has the value `y`.
 pub bind_some : {A B : Type 0} (o : Option A) (f : A → Option B) (y : B) → (o >>= f) ≡ Some y → (x : A) × (o ≡ Some x)
     × (f x ≡ Some y)
 bind_some None f y h = absurd (cc)
@@ -102,11 +94,10 @@ digits_no_colon [] h = tt
 digits_no_colon (d ∷ ds) h = let p = and_parts (is_ascii_digit d) (list_all is_ascii_digit ds) h in
     (digit_no_colon d p.0, digits_no_colon ds p.1)
 
--- The decimal text of a number below 2^64 has no colon.
 pub decimal_no_colon : (n : ℕ) → n < 2 ^ 64 → HasNoColon (decimal n)
 decimal_no_colon n small = digits_no_colon (decimal n) (digits_decimal own n small)
 
--- Each number of a list is below 256, so that it is a byte.
+-- All numbers of the list are bytes.
 abbrev pub AreSmall : List ℕ → Type 0
 AreSmall [] = Unit {0}
 AreSmall (b ∷ bs) = (b < 256) × AreSmall bs
@@ -116,11 +107,9 @@ digits_small [] h = tt
 digits_small (d ∷ ds) h = let p = and_parts (is_ascii_digit d) (list_all is_ascii_digit ds) h in
     (digit_small d p.0, digits_small ds p.1)
 
--- The decimal text of a number below 2^64 consists of bytes.
 pub decimal_small : (n : ℕ) → n < 2 ^ 64 → AreSmall (decimal n)
 decimal_small n small = digits_small (decimal n) (digits_decimal own n small)
 
--- If the lists `a` and `b` consist of bytes, so does `a` followed by `b`.
 pub small-append : (a b : List ℕ) → AreSmall a → AreSmall b → AreSmall (a ++ b)
 small-append [] b n m = m
 small-append (x ∷ a) b n m = (n.0, small-append a b n.1 m)

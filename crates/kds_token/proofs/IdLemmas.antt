@@ -1,4 +1,4 @@
--- The id of a shard is read as the shard's number, and no other text is read as a shard's number.
+-- The id of a shard and its number: a round trip, and no other text is read.
 use Rattle.std.proofs.Common.{subst, rules, ◌≡◌, ◌≢◌, ℕ, zero, suc, ◌-◌, ◌^◌, ◌<◌, List, ◌++◌, length, drop, replicate}
 use Rattle.std.proofs.Common.{decimal, Bool, true, false, Option, Some, None, refl, sym, ap, ◌∙◌, arith}
 use Rattle.std.specs.Prelude.{◌&&◌, nat_lt, if◌then◌else◌}
@@ -27,15 +27,12 @@ zeros_some : (k : ℕ) (ds : List ℕ) → 0 < length ds → 0 < length (replica
 zeros_some zero ds some = some
 zeros_some (suc k) ds some = omega arith
 
--- If `n` is below 2^64, the text `twelve_digits n` consists of decimal digits.
 pub id_digits : (n : ℕ) → n < 2 ^ 64 → AllDigits 10 (twelve_digits n)
 id_digits n small = zeros_digits (12 - length (decimal n)) (decimal n) (decimal_is_IsNumeral n small).0.1
 
--- If `n` is below 2^64, the text `twelve_digits n` isn't empty.
 pub id_some : (n : ℕ) → n < 2 ^ 64 → 0 < length (twelve_digits n)
 id_some n small = zeros_some (12 - length (decimal n)) (decimal n) (decimal_is_IsNumeral n small).0.0
 
--- If `n` is below 2^64, the value of the digits `twelve_digits n` is `n`.
 pub id_value : (n : ℕ) → n < 2 ^ 64 → digits_value 10 (twelve_digits n) ≡ n
 id_value n small = zeros_value (12 - length (decimal n)) (decimal n) ∙ (decimal_is_IsNumeral n small).1
 
@@ -47,7 +44,7 @@ if_id_again n small =
     let fits : nat_lt n (2 ^ 64) ≡ true = grind (arith, nat_tests) in
     rw (fits, same) refl
 
--- If `n` is below 2^64, the id of shard `n` is read as the number `n`.
+-- A round trip.
 pub id_reads : (n : ℕ) → n < 2 ^ 64 → id_of (shard_id n) ≡ Some n
 unfolding id_of
 id_reads n small = ap (if_id (shard_id n)) (id_value n small) ∙ if_id_again n small
@@ -62,18 +59,17 @@ if_id_is true true text m n fits is h =
 if_id_is true false text m n fits is h = absurd (cc)
 if_id_is false c text m n fits is h = absurd (cc)
 
--- If a text is read as the number `n`, it is the id of shard `n`, and `n` is below 2^64.
 pub id_is : (text : List ℕ) (n : ℕ) → id_of text ≡ Some n → (text ≡ shard_id n) × (n < 2 ^ 64)
 unfolding id_of
 id_is text n h = if_id_is _ _ text (digits_value 10 (drop 8 text)) n refl refl h
 
--- If a text is read as the number `n`, it is the id of shard `n`.
+-- A round trip: only the id of shard `n` is read as `n`.
 pub id_spells : (text : List ℕ) (n : ℕ) → id_of text ≡ Some n → text ≡ shard_id n
 id_spells text n h = (id_is text n h).0
 
 -- ---- How the code reads an id
 
--- Each byte of `text` is a decimal digit.
+-- Each byte of the text is a decimal digit.
 abbrev IsDigits : List ℕ → Type 0
 IsDigits text = list_all is_ascii_digit text ≡ true
 
@@ -92,14 +88,12 @@ twelve_read n small =
     let fits : nat_lt n (2 ^ 64) ≡ true = grind (arith, nat_tests) in
     rw (tested, id_value n small, fits) refl
 
--- If `text` is the id of shard `n`, and `n` is below 2^64, the part of `text` after its first eight bytes is read as
--- the number `n`.
+-- After `shardId-`, an id is read as its shard's number.
 pub tail_read : (text tail : List ℕ) (n : ℕ) → tail ≡ drop 8 text → text ≡ shard_id n → n < 2 ^ 64
     → digits_of 64 tail ≡ Some n
 tail_read text tail n cut e small = ap (digits_of 64) (cut ∙ ap (drop 8) e) ∙ twelve_read n small
 
--- Suppose that `text` can be the id of no shard but the one with the number `found`, and that it isn't the id of this
--- shard. Then `text` isn't read as an id.
+-- A text that isn't the id of the only shard in question is no id.
 pub no_id : (text : List ℕ) (found o : Option ℕ) → id_of text ≡ o
     → ((n : ℕ) → n < 2 ^ 64 → text ≡ shard_id n → found ≡ Some n) → ((n : ℕ) → found ≡ Some n → text ≢ shard_id n)
     → None ≡ id_of text

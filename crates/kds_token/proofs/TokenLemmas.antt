@@ -1,5 +1,4 @@
--- A token is read as the shard iterator, or the place in a listing, whose token it is. No other text is read as a shard
--- iterator or a place.
+-- Tokens and what they stand for: a round trip, and no other text is read.
 use Rattle.std.proofs.Common.{◌≡◌, ◌≢◌, ℕ, zero, suc, List, [], ◌∷◌, ◌++◌, Bool, true, false, Option, Some, None, refl}
 use Rattle.std.proofs.Common.{sym, ap, ◌∙◌, arith, codes, decimal, subst}
 use Rattle.std.specs.Prelude.{if◌then◌else◌, slice_index}
@@ -8,12 +7,12 @@ use Rattle.std.specs.declared.result.Result.{Result}
 use Rattle.std.specs.declared.result.Result.TheVariants.{Ok, Err}
 use Rattle.std.specs.Str.{bytes_eq}
 use Rattle.std.proofs.lemmas.Slice.Eq.{bytes_eq-Decides}
+use Rattle.std.proofs.lemmas.Option.{same_Some}
 use Rattle.base64.specs.Engines.{standard}
 use Rattle.base64.specs.GeneralPurpose.{IsBytes, decode_of, decoded_of, encode_of}
 use Rattle.base64.proofs.EngineFacts.{decode_of-encode_of, decode_of_strict}
 use Rattle.kds_base.specs.NumberText.{number_of}
 use Rattle.kds_base.proofs.NumberLemmas.{decimal_of_number, number_of_decimal}
-use Rattle.kds_base.proofs.Facts.{same_some}
 use Rattle.kds_defs.specs.declared.reply.Iter.{Iter}
 use Rattle.kds_defs.specs.declared.reply.Page.{Page}
 use Rattle.kds_base.specs.Moments.{moment_of}
@@ -26,7 +25,6 @@ use Rattle.kds_token.proofs.FieldLemmas.{decimal_no_colon, AreSmall, decimal_sma
 
 -- ---- Base64
 
--- A list of numbers below 256 is a list of bytes, as std defines it.
 pub small_bytes : (bs : List ℕ) → AreSmall bs → IsBytes bs
 small_bytes [] h i = omega arith
 small_bytes (b ∷ bs) h zero = h.0
@@ -61,7 +59,6 @@ kind_is : {A : Type 0} (b : Bool) (x y : List ℕ) (o : Option A) (z : A) → by
 kind_is true x y o z e h = ((bytes_eq-Decides x y).0 e, h)
 kind_is false x y o z e h = absurd (cc)
 
--- If the numbers of a shard iterator are in range, the text that its token encodes consists of bytes.
 pub iter_small : (i : Iter) → IsIter i → AreSmall (iter_text i)
 iter_small i is =
     let issued = decimal_small i.issued (omega (arith, is.issued)) in
@@ -95,8 +92,7 @@ iter_again i is =
       field_at (decimal i.position) (decimal i.issued) (decimal_no_colon i.position is.position),
     ) (iter_from_again i is)
 
--- The texts `stream`, `shard`, `position` and `issued`, joined by colons, are the decimal texts of the numbers in the
--- shard iterator `i`, and these numbers are in range.
+-- The four texts with colons between them are the decimal numbers of the iterator, which are in range.
 abbrev IsIterOf : List ℕ → List ℕ → List ℕ → List ℕ → Iter → Type 0
 IsIterOf stream shard position issued i =
     IsIter i × (stream ++ 58 ∷ (shard ++ 58 ∷ (position ++ 58 ∷ issued)) ≡ decimal i.stream
@@ -141,7 +137,6 @@ iter_reads : (text : List ℕ) (i : Iter) → IsIter i → text ≡ iter_token i
 iter_reads text i is e = ap iter_of e ∙ ap (λ o. o >>= iter_in) (decoded_again (iter_text i) (iter_small i is))
     ∙ iter_again i is
 
--- If the definition `iter_of` gives `o` for a text of bytes, then `o` is what the text must be read as (`ReadsAsIter`).
 pub iter_reads_as : (text : List ℕ) (o : Option Iter) → IsBytes text → iter_of text ≡ o → ReadsAsIter text o
 iter_reads_as text None bytes e = λ i is token. let bad : None ≡ Some i = sym e ∙ iter_reads text i is token in cc bad
 iter_reads_as text (Some i) bytes e =
@@ -149,13 +144,12 @@ iter_reads_as text (Some i) bytes e =
     let s = iter_spells a.0 i a.2 in
     (s.0, decoded_spells text a.0 bytes a.1 ∙ ap (encode_of standard) s.1)
 
--- What the definition `iter_of` gives for a text of bytes is what the text must be read as (`ReadsAsIter`).
+-- The reading of tokens of iterators is exact.
 pub iter_exact : (text : List ℕ) → IsBytes text → ReadsAsIter text (iter_of text)
 iter_exact text bytes = iter_reads_as text (iter_of text) bytes refl
 
--- Two shard iterators with the same token are equal, if their numbers are in range.
 pub one_iter : (i j : Iter) → IsIter i → IsIter j → iter_token i ≡ iter_token j → i ≡ j
-one_iter i j is js e = same_some i j (sym (iter_reads (iter_token i) i is refl) ∙ iter_reads (iter_token i) j js e)
+one_iter i j is js e = same_Some i j (sym (iter_reads (iter_token i) i is refl) ∙ iter_reads (iter_token i) j js e)
 
 -- ---- Places in a listing
 
@@ -183,8 +177,7 @@ page_again p is =
       field_at (decimal p.after) (decimal p.issued) (decimal_no_colon p.after is.after),
     ) (page_from_again p is)
 
--- The texts `stream`, `after` and `issued`, joined by colons, are the decimal texts of the numbers in the place `p` of
--- a listing, and these numbers are in range.
+-- The three texts with colons between them are the decimal numbers of the place, which are in range.
 abbrev IsPageOf : List ℕ → List ℕ → List ℕ → Page → Type 0
 IsPageOf stream after issued p =
     IsPage p × (stream ++ 58 ∷ (after ++ 58 ∷ issued) ≡ decimal p.stream
@@ -224,7 +217,6 @@ page_reads : (text : List ℕ) (p : Page) → IsPage p → text ≡ page_token p
 page_reads text p is e = ap page_of e ∙ ap (λ o. o >>= page_in) (decoded_again (page_text p) (page_small p is))
     ∙ page_again p is
 
--- If the definition `page_of` gives `o` for a text of bytes, then `o` is what the text must be read as (`ReadsAsPage`).
 pub page_reads_as : (text : List ℕ) (o : Option Page) → IsBytes text → page_of text ≡ o → ReadsAsPage text o
 page_reads_as text None bytes e = λ p is token. let bad : None ≡ Some p = sym e ∙ page_reads text p is token in cc bad
 page_reads_as text (Some p) bytes e =
@@ -232,21 +224,19 @@ page_reads_as text (Some p) bytes e =
     let s = page_spells a.0 p a.2 in
     (s.0, decoded_spells text a.0 bytes a.1 ∙ ap (encode_of standard) s.1)
 
--- What the definition `page_of` gives for a text of bytes is what the text must be read as (`ReadsAsPage`).
+-- The reading of tokens of places is exact.
 pub page_exact : (text : List ℕ) → IsBytes text → ReadsAsPage text (page_of text)
 page_exact text bytes = page_reads_as text (page_of text) bytes refl
 
--- Two places in a listing with the same token are equal, if their numbers are in range.
 pub one_page : (p q : Page) → IsPage p → IsPage q → page_token p ≡ page_token q → p ≡ q
-one_page p q is js e = same_some p q (sym (page_reads (page_token p) p is refl) ∙ page_reads (page_token p) q js e)
+one_page p q is js e = same_Some p q (sym (page_reads (page_token p) p is refl) ∙ page_reads (page_token p) q js e)
 
 -- ---- No token is of both kinds
 
 texts_apart : (a b : List ℕ) → codes "KI1:" ++ a ≡ codes "KT1:" ++ b → ⊥
 texts_apart a b h = let e : ◌≡◌ {A = ℕ} 73 84 = ap (λ (l : List ℕ). slice_index l 1) h in absurd (omega arith)
 
--- A shard iterator and a place in a listing never have the same token, if their numbers are in range.
 pub tokens_apart : (i : Iter) (p : Page) → IsIter i → IsPage p → iter_token i ≢ page_token p
 tokens_apart i p is js e =
-    texts_apart _ _ (same_some (iter_text i) (page_text p) (sym (decoded_again (iter_text i) (iter_small i is))
+    texts_apart _ _ (same_Some (iter_text i) (page_text p) (sym (decoded_again (iter_text i) (iter_small i is))
     ∙ ap (decoded_of standard) e ∙ decoded_again (page_text p) (page_small p js)))

@@ -1,5 +1,4 @@
--- The index of first children fits the shards of a new stream (`AreFamilies`), and it fits the shards again after a
--- split or a merge. So the children of a shard come one right after the other.
+-- The index of first children fits a new stream's shards, and again after each split and merge.
 use Rattle.std.proofs.Common.{◌≡◌, inl, inr, ℕ, zero, suc, ◌+◌, ◌<◌, ◌≤◌, Bool, true, false, refl, sym, ap, subst, ◌∙◌}
 use Rattle.std.proofs.Common.{arith}
 use Rattle.std.proofs.Common.{List, [], ◌∷◌, ◌++◌, length, drop, take, Option, Some, None}
@@ -40,8 +39,6 @@ near p (suc first) (x ∷ xs) only =
     ∙ sym (ap (λ (b : Bool). cond b (x ∷ filter p xs) (filter p xs))
     (false_from_ne_true (p x) (λ t. absurd (omega (arith, (only 0 x refl t).0)))))
 
--- If the index gives `first` as the first child of the shard `parent`, this shard's children are among the two shards
--- from the number `first` on.
 pub all_near : (firsts : List (Option ℕ)) (xs pair : List ShardState) (parent first : ℕ) → AreFamilies firsts xs
     → Some first ≡ flat (slice_get firsts parent) → pair ≡ take 2 (drop first xs)
     → children_among parent pair ≡ children_among parent xs
@@ -50,7 +47,6 @@ all_near firsts xs pair parent first families is is_pair =
     ∙ near (is_child parent) first xs (λ index x there child.
     subst (λ o. MayStandAt o index) (sym is) (families.each parent index x there child))
 
--- If the index gives no first child of the shard `parent`, this shard has no children.
 pub none_known : (firsts : List (Option ℕ)) (xs : List ShardState) (parent : ℕ) → AreFamilies firsts xs
     → None ≡ flat (slice_get firsts parent)
     → [] ≡ children_among parent xs
@@ -113,7 +109,6 @@ none_at zero index below = absurd (omega arith)
 none_at (suc n) zero below = refl
 none_at (suc n) (suc index) below = none_at n index (omega arith)
 
--- An index without any first child fits the shards of a new stream, because none of them has a parent.
 pub families_made : (count n start : ℕ) (ranges : List Span) → length (first_shards n start ranges) ≡ count
     → AreFamilies (replicate count None) (first_shards n start ranges)
 unfolding nones
@@ -127,13 +122,11 @@ families_made count n start ranges long = record {
 
 -- ---- Shards are closed, and others are added at the end
 
--- If the shard at an index of `closed` is a child of some shard, the shard at this index of `xs` is a child of that
--- shard too.
+-- No shard of `closed` has a parent that the shard at its index of `xs` doesn't have.
 abbrev pub Kin : List ShardState → List ShardState → Type 0
 Kin xs closed = (parent index : ℕ) (y : ShardState) → slice_get closed index ≡ Some y → is_child parent y ≡ true
     → (x : ShardState) × ((slice_get xs index ≡ Some x) × (is_child parent x ≡ true))
 
--- After a shard is closed, no shard has a parent that it didn't have before (`Kin`).
 pub kin_closed : (xs : List ShardState) (sh : ℕ) (closing : Closing) → Kin xs (with_closed sh closing xs)
 kin_closed [] sh closing parent index y is child = absurd cc
 kin_closed (x ∷ xs) zero closing parent zero y is child =
@@ -144,19 +137,17 @@ kin_closed (x ∷ xs) zero closing parent (suc index) y is child = (y, (is, chil
 kin_closed (x ∷ xs) (suc sh) closing parent zero y is child = (y, (is, child))
 kin_closed (x ∷ xs) (suc sh) closing parent (suc index) y is child = kin_closed xs sh closing parent index y is child
 
--- After two shards are closed, no shard has a parent that it didn't have before (`Kin`).
 pub kin_twice : (xs : List ShardState) (sh other : ℕ) (closing : Closing)
     → Kin xs (with_closed other closing (with_closed sh closing xs))
 kin_twice xs sh other closing parent index y is child =
     let once = kin_closed (with_closed sh closing xs) other closing parent index y is child in
     kin_closed xs sh closing parent index once.0 once.1.0 once.1.1
 
--- The index `firsts` after the shards `sh` and `other` have got the first child `child`, and the entries `more` have
--- been added for new shards.
+-- The index after `sh` and `other` got the first child `child`, with entries for new shards.
 abbrev pub after_birth : List (Option ℕ) → ℕ → ℕ → ℕ → List (Option ℕ) → List (Option ℕ)
 after_birth firsts sh other child more = slice_set (slice_set firsts sh (Some child)) other (Some child) ++ more
 
--- The entries `more` of the index give no first child.
+-- The entries give no first child.
 abbrev AreNone : List (Option ℕ) → Type 0
 AreNone more = (i : ℕ) → i < length more → slice_get more i ≡ Some None
 
@@ -189,8 +180,6 @@ module _ (firsts more : List (Option ℕ)) (xs closed born : List ShardState) (s
       (ap (slice_get (slice_set (slice_set firsts sh (Some child)) other (Some child))) e
       ∙ set_there (slice_set firsts sh (Some child)) other once.0 (Some child) once.1)
 
-  -- If the index gives no first child of the shard `i`, and some child of the shard `parent` may have the number
-  -- `index`, then `parent` isn't `i`.
   not_yet : (i parent index : ℕ) → slice_get firsts i ≡ Some None → MayStandAt (flat (slice_get firsts parent)) index
       → parent ≢ i
   not_yet i parent index is h e = subst (λ o. MayStandAt (flat o) index) (ap (slice_get firsts) e ∙ is) h
@@ -224,9 +213,6 @@ module _ (firsts more : List (Option ℕ)) (xs closed born : List ShardState) (s
       let e : index ≡ length sets + h.index = omega (arith, h.is, long_sets) in
       ap (slice_get (sets ++ more)) e ∙ get_back sets more h.index ∙ none h.index (omega arith)
 
-  -- Let the shards `sh` and `other`, for which the index gives no child, be closed. Let at most two shards `born`,
-  -- which have no parents other than `sh` and `other`, be added at the end. Then the changed index (`after_birth`) fits
-  -- the shards.
   pub born_families : AreFamilies (after_birth firsts sh other child more) (closed ++ born)
   born_families = record {
     long =
@@ -277,8 +263,6 @@ none_in_two zero below = refl
 none_in_two (suc zero) below = refl
 none_in_two (suc (suc i)) below = absurd (omega arith)
 
--- Let an open shard be split. Then the index fits the shards again after the first child of the split shard is set to
--- the first new shard, and two empty entries are added.
 pub split_families : (firsts : List (Option ℕ)) (xs : List ShardState) (sh a b start : ℕ) (r q : Span)
     (closing : Closing) (x : ShardState)
     → slice_get xs sh ≡ Some x → is_open x ≡ true → AreFamilies firsts xs
@@ -291,8 +275,6 @@ split_families firsts xs sh a b start r q closing x made open_now families =
     families (closes_one xs sh closing) (kin_closed xs sh closing) (omega arith) refl none_in_two refl young young
     (of_split sh a b start r q)
 
--- Let two open shards be merged. Then the index fits the shards again after the first child of each of the two is set
--- to the new shard, and one empty entry is added.
 pub merge_families : (firsts : List (Option ℕ)) (xs : List ShardState) (sh other a start : ℕ) (r : Span)
     (closing : Closing) (x y : ShardState)
     → slice_get xs sh ≡ Some x → is_open x ≡ true → slice_get xs other ≡ Some y → is_open y ≡ true
@@ -307,8 +289,7 @@ merge_families firsts xs sh other a start r closing x y made open_now other_made
 
 -- ---- How the code changes the index
 
--- If the code sets the entries of the shards `sh` and `other` in the index to `a`, and adds one empty entry, the index
--- is the one of `after_birth`.
+-- The index that the code makes for a merge.
 pub one_place : (fs kept set more : List (Option ℕ)) (sh other a n : ℕ) → kept ≡ fs
     → set ≡ slice_set (slice_set kept sh (Some a)) other (Some a) → a ≡ n
     → more ≡ set ++ None ∷ []
@@ -320,8 +301,7 @@ one_place fs kept set more sh other a n is_kept is_set is is_more =
     ∙ ap (λ (us : List (Option ℕ)). slice_set (slice_set us sh (Some a)) other (Some a)) is_kept
     ∙ ap (λ (m : ℕ). slice_set (slice_set fs sh (Some m)) other (Some m)) is)
 
--- If the code sets the entries of the shards `sh` and `other` in the index to `a`, and adds two empty entries, the
--- index is the one of `after_birth`.
+-- The index that the code makes for a split.
 pub two_places : (fs kept set next more : List (Option ℕ)) (sh other a n : ℕ) → kept ≡ fs
     → set ≡ slice_set (slice_set kept sh (Some a)) other (Some a)
     → a ≡ n → next ≡ set ++ None ∷ [] → more ≡ next ++ None ∷ []

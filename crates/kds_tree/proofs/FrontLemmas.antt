@@ -1,5 +1,4 @@
--- The front of a list of shards: its first shards, each of which is expired or has its number in the list `names`
--- (`AreLeft`). The lemmas say what keeps a front a front, and why listings may skip its shards that aren't named.
+-- What keeps a front a front, and why listings may skip its shards that aren't named.
 use Rattle.std.proofs.Common.{◌≡◌, ℕ, zero, suc, ◌+◌, ◌-◌, ◌<◌, ◌≤◌, Bool, true, false, List, [], ◌∷◌, ◌++◌, drop}
 use Rattle.std.proofs.Common.{get_or, length, map, Option, Some, None, refl, sym, ap, subst, ◌∙◌, arith, inl, inr}
 use Rattle.std.specs.Prelude.{cond, max, not, slice_get, slice_set}
@@ -20,7 +19,7 @@ still_below : (f g : ℕ) (o : Option Closing) → f ≤ g → was_closed_below 
 still_below f g None h e = e
 still_below f g (Some closing) h e = grind (arith, nat_tests)
 
--- A front at the floor `f` is also a front at a higher floor `g`, because expired shards stay expired.
+-- Expired shards stay expired.
 pub later_left : (f g n c : ℕ) (names : List ℕ) (xs : List ShardState) → f ≤ g → AreLeft f n c names xs
     → AreLeft g n c names xs
 later_left f g n zero names xs h left = left
@@ -31,23 +30,19 @@ later_left f g n (suc c) (i ∷ names) (x ∷ xs) h (inl a) = inl (a.0, later_le
 later_left f g n (suc c) (i ∷ names) (x ∷ xs) h (inr a) =
     inr (still_below f g x.closing h a.0, later_left f g (suc n) c (i ∷ names) xs h a.1)
 
--- If an expired shard is put before the list, the front may have one shard more.
 passed_left : (f n c : ℕ) (names : List ℕ) (x : ShardState) (xs : List ShardState) → is_closed_below f x ≡ true
     → AreLeft f (suc n) c names xs
     → AreLeft f n (suc c) names (x ∷ xs)
 passed_left f n c [] x xs e left = (e, left)
 passed_left f n c (i ∷ names) x xs e left = inr (e, left)
 
--- Suppose that each shard of `x ∷ xs` whose number fails the test `keep` is expired. Then each shard of `xs` whose
--- number fails `keep` is expired. The shard `x` has the number `n`.
 shifted : (f n : ℕ) (keep : ℕ → Bool) (x : ShardState) (xs : List ShardState)
     → ((j : ℕ) (y : ShardState) → slice_get (x ∷ xs) j ≡ Some y → keep (n + j) ≡ false → is_closed_below f y ≡ true)
     → (j : ℕ) (y : ShardState) → slice_get xs j ≡ Some y → keep (suc n + j) ≡ false → is_closed_below f y ≡ true
 shifted f n keep x xs drops j y is e = let next : n + suc j ≡ suc n + j = omega arith in
     drops (suc j) y is (ap keep next ∙ e)
 
--- Suppose that each shard whose number fails the test `keep` is expired. Then the names of a front may be filtered by
--- `keep`, and the front stays a front.
+-- Names of expired shards may be dropped.
 pub kept_left : (f n c : ℕ) (keep : ℕ → Bool) (names : List ℕ) (xs : List ShardState)
     → ((j : ℕ) (y : ShardState) → slice_get xs j ≡ Some y → keep (n + j) ≡ false → is_closed_below f y ≡ true)
     → AreLeft f n c names xs → AreLeft f n c (filter keep names) xs
@@ -56,37 +51,35 @@ kept_left f n (suc c) keep names [] drops left = absurd left
 kept_left f n (suc c) keep [] (x ∷ xs) drops left =
     (left.0, kept_left f (suc n) c keep [] xs (shifted f n keep x xs drops) left.1)
 kept_left f n (suc c) keep (i ∷ names) (x ∷ xs) drops (inl a) =
-    by (keep i) refl (kept_left f (suc n) c keep names xs (shifted f n keep x xs drops) a.1)
+    cases (keep i) refl (kept_left f (suc n) c keep names xs (shifted f n keep x xs drops) a.1)
   where
-    by : (b : Bool) → keep i ≡ b → AreLeft f (suc n) c (filter keep names) xs
+    cases : (b : Bool) → keep i ≡ b → AreLeft f (suc n) c (filter keep names) xs
         → AreLeft f n (suc c) (cond b (i ∷ filter keep names) (filter keep names)) (x ∷ xs)
-    by true e rest = inl (a.0, rest)
-    by false e rest =
+    cases true e rest = inl (a.0, rest)
+    cases false e rest =
         let same : n + 0 ≡ i = omega (arith, a.0) in
         passed_left f n c (filter keep names) x xs (drops 0 x refl (ap keep same ∙ e)) rest
 kept_left f n (suc c) keep (i ∷ names) (x ∷ xs) drops (inr a) =
     passed_left f n c (filter keep (i ∷ names)) x xs a.0
     (kept_left f (suc n) c keep (i ∷ names) xs (shifted f n keep x xs drops) a.1)
 
--- If the shard right after the front is expired, the front may have one shard more.
 pub one_passed : (f n c m : ℕ) (names : List ℕ) (xs : List ShardState) (x : ShardState) → m ≡ c + 1 → c < length xs
     → x ≡ get_or xs c x
     → is_closed_below f x ≡ true → AreLeft f n c names xs → AreLeft f n m names xs
-one_passed f n c m names xs x is below at e left =
+one_passed f n c m names xs x is below is_at e left =
     let next : suc c ≡ m = omega arith in
-    subst (λ k. AreLeft f n k names xs) next (longer n c names xs below at left)
+    subst (λ k. AreLeft f n k names xs) next (longer n c names xs below is_at left)
   where
     longer : (n k : ℕ) (ns : List ℕ) (ys : List ShardState) → k < length ys → x ≡ get_or ys k x → AreLeft f n k ns ys
         → AreLeft f n (suc k) ns ys
-    longer n k ns [] below at left = absurd (omega arith)
-    longer n zero ns (y ∷ ys) below at left = passed_left f n 0 ns y ys (ap (is_closed_below f) (sym at) ∙ e) left
-    longer n (suc k) [] (y ∷ ys) below at left = (left.0, longer (suc n) k [] ys (omega arith) at left.1)
-    longer n (suc k) (i ∷ ns) (y ∷ ys) below at (inl a) =
-        inl (a.0, longer (suc n) k ns ys (omega arith) at a.1)
-    longer n (suc k) (i ∷ ns) (y ∷ ys) below at (inr a) =
-        inr (a.0, longer (suc n) k (i ∷ ns) ys (omega arith) at a.1)
+    longer n k ns [] below is_at left = absurd (omega arith)
+    longer n zero ns (y ∷ ys) below is_at left = passed_left f n 0 ns y ys (ap (is_closed_below f) (sym is_at) ∙ e) left
+    longer n (suc k) [] (y ∷ ys) below is_at left = (left.0, longer (suc n) k [] ys (omega arith) is_at left.1)
+    longer n (suc k) (i ∷ ns) (y ∷ ys) below is_at (inl a) =
+        inl (a.0, longer (suc n) k ns ys (omega arith) is_at a.1)
+    longer n (suc k) (i ∷ ns) (y ∷ ys) below is_at (inr a) =
+        inr (a.0, longer (suc n) k (i ∷ ns) ys (omega arith) is_at a.1)
 
--- If the number of the shard right after the front is added to the names, the front may have one shard more.
 pub one_named : (f n c m : ℕ) (names : List ℕ) (xs : List ShardState) → m ≡ c + 1 → c < length xs
     → AreLeft f n c names xs → AreLeft f n m (names ++ (n + c) ∷ []) xs
 one_named f n c m names xs is below left =
@@ -107,7 +100,6 @@ one_named f n c m names xs is below left =
 
 -- ---- A front stays a front if shards are added at the end, and if open shards are changed
 
--- If shards are added at the end of the list, a front stays a front.
 pub left_append : (f n c : ℕ) (names : List ℕ) (xs ys : List ShardState) → AreLeft f n c names xs
     → AreLeft f n c names (xs ++ ys)
 left_append f n zero names xs ys left = left
@@ -126,7 +118,7 @@ open_first : (f : ℕ) (x y : ShardState) (xs : List ShardState) → slice_get (
 open_first f x y xs made opened e = let same : x ≡ y = cc in
     open_or_below f y.closing y refl opened (ap (is_closed_below f) (sym same) ∙ e)
 
--- If an open shard is replaced by another shard, a front stays a front, because an open shard of the front is named.
+-- An open shard of the front is named.
 pub left_set : (f n c i : ℕ) (names : List ℕ) (xs : List ShardState) (x y : ShardState) → slice_get xs i ≡ Some x
     → is_open x ≡ true
     → AreLeft f n c names xs → AreLeft f n c names (slice_set xs i y)
@@ -142,7 +134,6 @@ left_set f n (suc c) (suc i) (k ∷ names) (z ∷ xs) x y made opened (inl a) =
 left_set f n (suc c) (suc i) (k ∷ names) (z ∷ xs) x y made opened (inr a) =
     inr (a.0, left_set f (suc n) c i (k ∷ names) xs x y made opened a.1)
 
--- If two open shards are replaced by others, a front stays a front, because an open shard of the front is named.
 pub left_sets : (f n c i j : ℕ) (names : List ℕ) (xs : List ShardState) (x v y z : ShardState) → slice_get xs i ≡ Some x
     → is_open x ≡ true
     → slice_get xs j ≡ Some v → is_open v ≡ true → AreLeft f n c names xs
@@ -181,7 +172,6 @@ least f n (suc c) (i ∷ names) (x ∷ xs) (inl a) (suc j) d lt =
     omega (arith, least f (suc n) c names xs a.1 j d (omega arith))
 least f n (suc c) (i ∷ names) (x ∷ xs) (inr a) j d lt = omega (arith, least f (suc n) c (i ∷ names) xs a.1 j d lt)
 
--- The numbers in the names of a front never fall.
 pub names_rise : (f n c : ℕ) (names : List ℕ) (xs : List ShardState) → AreLeft f n c names xs
     → (i j d : ℕ) → i ≤ j → j < length names → get_or names i d ≤ get_or names j d
 names_rise f n zero names xs left i j d le lt = absurd (omega (arith, lt, ap length left))
@@ -195,74 +185,72 @@ names_rise f n (suc c) (k ∷ names) (x ∷ xs) (inl a) (suc i) (suc j) d le lt 
     names_rise f (suc n) c names xs a.1 i j d (omega arith) (omega arith)
 names_rise f n (suc c) (k ∷ names) (x ∷ xs) (inr a) i j d le lt = names_rise f (suc n) c (k ∷ names) xs a.1 i j d le lt
 
-none_left : (at : ℕ) (names : List ℕ) → names ≡ [] → drop at names ≡ []
+none_left : (index : ℕ) (names : List ℕ) → names ≡ [] → drop index names ≡ []
 none_left zero names none = none
-none_left (suc at) [] none = refl
-none_left (suc at) (i ∷ names) none = absurd cc
+none_left (suc index) [] none = refl
+none_left (suc index) (i ∷ names) none = absurd cc
 
-nothing_before : (f n c t at : ℕ) (names : List ℕ) (xs : List ShardState) → t ≡ n
-    → ((j d : ℕ) → j < at → j < length names → get_or names j d < t)
-    → AreLeft f n c names xs → drop at names ≡ names
-nothing_before f n c t zero names xs is before left = refl
-nothing_before f n c t (suc at) [] xs is before left = refl
-nothing_before f n c t (suc at) (i ∷ names) xs is before left =
+nothing_before : (f n c t index : ℕ) (names : List ℕ) (xs : List ShardState) → t ≡ n
+    → ((j d : ℕ) → j < index → j < length names → get_or names j d < t)
+    → AreLeft f n c names xs → drop index names ≡ names
+nothing_before f n c t zero names xs is is_before left = refl
+nothing_before f n c t (suc index) [] xs is is_before left = refl
+nothing_before f n c t (suc index) (i ∷ names) xs is is_before left =
     absurd (omega (
       arith,
       is,
-      before 0 i (omega arith) (omega arith),
+      is_before 0 i (omega arith) (omega arith),
       least f n c (i ∷ names) xs left 0 i (omega arith),
     ))
 
--- Let the names below the number `t` be those before the index `at`. Then the names from `at` on are the names for the
--- front of the shards from the number `t` on, which begin at the index `m`.
-pub names_behind : (f n c m t k at : ℕ) (names : List ℕ) (xs : List ShardState) → t ≡ n + m → k ≡ c - m
-    → ((j d : ℕ) → j < at → j < length names → get_or names j d < t)
-    → ((j d : ℕ) → at ≤ j → j < length names → t ≤ get_or names j d)
-    → AreLeft f n c names xs → AreLeft f t k (drop at names) (drop m xs)
-names_behind f n c zero t k at names xs is_t is_k before from left =
+pub names_behind : (f n c m t k index : ℕ) (names : List ℕ) (xs : List ShardState) → t ≡ n + m → k ≡ c - m
+    → ((j d : ℕ) → j < index → j < length names → get_or names j d < t)
+    → ((j d : ℕ) → index ≤ j → j < length names → t ≤ get_or names j d)
+    → AreLeft f n c names xs → AreLeft f t k (drop index names) (drop m xs)
+names_behind f n c zero t k index names xs is_t is_k is_before is_from left =
     let e : n ≡ t = omega arith in
     let g : c ≡ k = omega arith in
-    subst (λ us. AreLeft f t k us xs) (sym (nothing_before f n c t at names xs (sym e) before left))
+    subst (λ us. AreLeft f t k us xs) (sym (nothing_before f n c t index names xs (sym e) is_before left))
     (subst (λ a. AreLeft f a k names xs) e (subst (λ b. AreLeft f n b names xs) g left))
-names_behind f n zero (suc m) t k at names xs is_t is_k before from left =
+names_behind f n zero (suc m) t k index names xs is_t is_k is_before is_from left =
     let g : 0 ≡ k = omega arith in
-    subst (λ b. AreLeft f t b (drop at names) (drop (suc m) xs)) g (none_left at names left)
-names_behind f n (suc c) (suc m) t k at names [] is_t is_k before from left = absurd left
-names_behind f n (suc c) (suc m) t k at [] (x ∷ xs) is_t is_k before from left =
-    names_behind f (suc n) c m t k at [] xs (omega arith) (omega arith) before from left.1
-names_behind f n (suc c) (suc m) t k zero (i ∷ names) (x ∷ xs) is_t is_k before from (inl a) =
-    absurd (omega (arith, is_t, a.0, from 0 i (omega arith) (omega arith)))
-names_behind f n (suc c) (suc m) t k (suc at) (i ∷ names) (x ∷ xs) is_t is_k before from (inl a) =
-    names_behind f (suc n) c m t k at names xs (omega arith) (omega arith)
-    (λ j d lt within. before (suc j) d (omega arith) (omega arith))
-    (λ j d le within. from (suc j) d (omega arith) (omega arith)) a.1
-names_behind f n (suc c) (suc m) t k at (i ∷ names) (x ∷ xs) is_t is_k before from (inr a) =
-    names_behind f (suc n) c m t k at (i ∷ names) xs (omega arith) (omega arith) before from a.1
+    subst (λ b. AreLeft f t b (drop index names) (drop (suc m) xs)) g (none_left index names left)
+names_behind f n (suc c) (suc m) t k index names [] is_t is_k is_before is_from left = absurd left
+names_behind f n (suc c) (suc m) t k index [] (x ∷ xs) is_t is_k is_before is_from left =
+    names_behind f (suc n) c m t k index [] xs (omega arith) (omega arith) is_before is_from left.1
+names_behind f n (suc c) (suc m) t k zero (i ∷ names) (x ∷ xs) is_t is_k is_before is_from (inl a) =
+    absurd (omega (arith, is_t, a.0, is_from 0 i (omega arith) (omega arith)))
+names_behind f n (suc c) (suc m) t k (suc index) (i ∷ names) (x ∷ xs) is_t is_k is_before is_from (inl a) =
+    names_behind f (suc n) c m t k index names xs (omega arith) (omega arith)
+    (λ j d lt within. is_before (suc j) d (omega arith) (omega arith))
+    (λ j d le within. is_from (suc j) d (omega arith) (omega arith)) a.1
+names_behind f n (suc c) (suc m) t k index (i ∷ names) (x ∷ xs) is_t is_k is_before is_from (inr a) =
+    names_behind f (suc n) c m t k index (i ∷ names) xs (omega arith) (omega arith) is_before is_from a.1
 
 -- ---- Listings skip the shards of the front that aren't named
 
 listed_left : (f n c : ℕ) (names : List ℕ) (xs all : List ShardState)
     → ((j : ℕ) → slice_get all (n + j) ≡ slice_get xs j) → AreLeft f n c names xs
     → listed_among f (picked names all ++ drop c xs) ≡ listed_among f xs
-listed_left f n zero names xs all at left = ap (λ us. listed_among f (picked us all ++ xs)) left
-listed_left f n (suc c) names [] all at left = absurd left
-listed_left f n (suc c) [] (x ∷ xs) all at left =
-    listed_left f (suc n) c [] xs all (next_at n x xs all at) left.1
+listed_left f n zero names xs all is_at left = ap (λ us. listed_among f (picked us all ++ xs)) left
+listed_left f n (suc c) names [] all is_at left = absurd left
+listed_left f n (suc c) [] (x ∷ xs) all is_at left =
+    listed_left f (suc n) c [] xs all (next_at n x xs all is_at) left.1
     ∙ sym (ap (λ b. cond (not b) (x ∷ listed_among f xs) (listed_among f xs)) left.0)
   where
     next_at : (n : ℕ) (x : ShardState) (xs all : List ShardState)
         → ((j : ℕ) → slice_get all (n + j) ≡ slice_get (x ∷ xs) j)
         → (j : ℕ) → slice_get all (suc n + j) ≡ slice_get xs j
-    next_at n x xs all at j = let e : suc n + j ≡ n + suc j = omega arith in ap (slice_get all) e ∙ at (suc j)
-listed_left f n (suc c) (i ∷ names) (x ∷ xs) all at (inl a) =
+    next_at n x xs all is_at j = let e : suc n + j ≡ n + suc j = omega arith in ap (slice_get all) e ∙ is_at (suc j)
+listed_left f n (suc c) (i ∷ names) (x ∷ xs) all is_at (inl a) =
     let here : i ≡ n + 0 = omega (arith, a.0) in
-    ap (λ o. listed_among f (picked_before o (picked names all) ++ drop c xs)) (ap (slice_get all) here ∙ at 0)
+    ap (λ o. listed_among f (picked_before o (picked names all) ++ drop c xs)) (ap (slice_get all) here ∙ is_at 0)
     ∙ ap (λ us. cond (not (is_closed_below f x)) (x ∷ us) us)
     (listed_left f (suc n) c names xs all (λ j. let e : suc n + j ≡ n + suc j = omega arith in
-    ap (slice_get all) e ∙ at (suc j)) a.1)
-listed_left f n (suc c) (i ∷ names) (x ∷ xs) all at (inr a) =
+    ap (slice_get all) e ∙ is_at (suc j)) a.1)
+listed_left f n (suc c) (i ∷ names) (x ∷ xs) all is_at (inr a) =
     listed_left f (suc n) c (i ∷ names) xs all (λ j. let e : suc n + j ≡ n + suc j = omega arith in
-    ap (slice_get all) e ∙ at (suc j)) a.1
+    ap (slice_get all) e ∙ is_at (suc j)) a.1
     ∙ sym (ap (λ b. cond (not b) (x ∷ listed_among f xs) (listed_among f xs)) a.0)
 
 get_drop : (n j : ℕ) (xs : List ShardState) → slice_get xs (n + j) ≡ slice_get (drop n xs) j
@@ -278,8 +266,7 @@ drop_twice (suc a) (suc b) [] = let e : suc (a + suc b) ≡ suc a + suc b = omeg
 drop_twice (suc a) b (x ∷ xs) = let e : suc (a + b) ≡ suc a + b = omega arith in
     drop_twice a b xs ∙ ap (λ k. drop k (x ∷ xs)) e
 
--- A listing of the shards after a given number can be made from the named shards after this number, and the shards that
--- come after both the number and the front. `names` are the names from the next number on.
+-- A listing needs only the named shards of the front and the shards after it.
 pub listing_left : (cut after : Option ℕ) (xs : List ShardState) (names : List ℕ) (c start m : ℕ)
     → AreLeft (floor_of cut) start (c - start) names (drop start xs) → m ≡ max start c
     → drop start xs ≡ filter (is_after_shard after) xs
@@ -293,8 +280,6 @@ listing_left cut after xs names c start m left is behind =
     left)
     ∙ listing_behind cut after xs (drop start xs) behind
 
--- Let the keys of the listed shards among the named ones be added to `keys`, and then the keys of the listed shards
--- after the front. The result is `keys` followed by the keys of all listed shards.
 pub keys_left : (s f c : ℕ) (names : List ℕ) (xs : List ShardState) (keys now new : List ShardRef)
     → AreLeft f 0 c names xs
     → now ≡ keys ++ refs_of s (listed_among f (picked names xs))
@@ -311,7 +296,6 @@ keys_left s f c names xs keys now new left is_now is_new =
     (sym (filter-append _ first (drop c xs))
     ∙ listed_left f 0 c names xs xs (λ j. let e : 0 + j ≡ j = omega arith in ap (slice_get xs) e) left))
 
--- A front has at most as many shards as the list.
 pub left_within : (f n c : ℕ) (names : List ℕ) (xs : List ShardState) → AreLeft f n c names xs → c ≤ length xs
 left_within f n zero names xs left = omega arith
 left_within f n (suc c) names [] left = absurd left
@@ -319,7 +303,6 @@ left_within f n (suc c) [] (x ∷ xs) left = omega (arith, left_within f (suc n)
 left_within f n (suc c) (i ∷ names) (x ∷ xs) (inl a) = omega (arith, left_within f (suc n) c names xs a.1)
 left_within f n (suc c) (i ∷ names) (x ∷ xs) (inr a) = omega (arith, left_within f (suc n) c (i ∷ names) xs a.1)
 
--- Let the option `o` have the shard `x`. If the test that `o` isn't expired fails, `x` is expired.
 was_true : (f j : ℕ) (o : Option ShardState) (x : ShardState) → o ≡ Some x → not (is_expired_at f o) ≡ false
     → is_closed_below f x ≡ true
 was_true f j None x is e = absurd cc
@@ -330,7 +313,6 @@ was_true f j (Some y) x is e = let same : y ≡ x = cc in
     not_false true e = refl
     not_false false e = absurd cc
 
--- If the test that a shard isn't expired fails for the shard at the index `j`, this shard is expired.
 pub drops_expired : (f : ℕ) (xs : List ShardState) (j : ℕ) (x : ShardState) → slice_get xs j ≡ Some x
     → not (is_expired_at f (slice_get xs (0 + j))) ≡ false → is_closed_below f x ≡ true
 drops_expired f xs j x is e = let same : 0 + j ≡ j = omega arith in

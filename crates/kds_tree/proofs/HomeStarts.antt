@@ -1,11 +1,11 @@
--- The home of a hash key is the open shard with the last start at or below the key. The starts `ss` are in the order of
--- their keys, and exactly those before the index `i` are at or below the key `k`.
+-- The home of a hash key is the open shard with the last start at or below the key.
 use Rattle.std.proofs.Common.{◌≡◌, ℕ, zero, suc, ◌-◌, ◌^◌, ◌<◌, ◌≤◌, Bool, true, false, List, [], ◌∷◌, length, get_or}
 use Rattle.std.proofs.Common.{Some, leb, leb-true, refl, sym, ap, subst, ◌∙◌, arith}
 use Rattle.std.specs.Prelude.{slice_get}
 use Rattle.std.specs.List.{AllByRecursion, filter}
 use Rattle.std.specs.List.Sorted.{IsPartitionPoint}
 use Rattle.std.proofs.lemmas.Bool.Decides.{nat_tests}
+use Rattle.std.proofs.lemmas.List.{get_or_default}
 use Rattle.kds_base.specs.Span.{Covers}
 use Rattle.kds_defs.specs.Shards.{ShardState, is_open, home_among}
 use Rattle.kds_defs.specs.Tiled.{IsOrdered}
@@ -30,40 +30,35 @@ below_unless : (a b : ℕ) (t : Bool) → leb b a ≡ t → (b ≤ a → ⊥) �
 below_unless a b true e h = absurd (h (leb-true b a e))
 below_unless a b false e h = grind (arith, nat_tests)
 
-default_at : (ss : List OpenStart) (j : ℕ) (c d : OpenStart) → j < length ss → get_or ss j c ≡ get_or ss j d
-default_at [] j c d lt = absurd (omega arith)
-default_at (s ∷ ss) zero c d lt = refl
-default_at (s ∷ ss) (suc j) c d lt = default_at ss j c d (omega arith)
-
 module _ (xs : List ShardState) (ss : List OpenStart) (k i : ℕ) (tree : IsTree xs) (starts : AreStarts ss xs)
     (below : k < 2 ^ 128)
     (point : IsPartitionPoint (λ (y : OpenStart). leb y.key k ≡ true) (λ (y : OpenStart). leb y.key k ≡ false) ss i)
     (bound : i ≤ length ss) where
-  -- A start that is at or below the key `k` comes before the index `i`.
   before_point : (j : ℕ) (d : OpenStart) → j < length ss → (get_or ss j d).key ≤ k → j < i
   before_point j d lt le =
       below_unless j i (leb i j) refl (λ over. below_point (get_or ss j d).key k (point.1 j d over lt) le)
 
-  -- The start right before the index `i` belongs to the home of the key `k`.
-  pub found : (s : OpenStart) → (at : ℕ) → at ≡ i - 1 → at < length ss → s ≡ get_or ss at s → IsHome xs k s.shard
-  found s at is_at within is =
+  pub found : (s : OpenStart) → (hash : ℕ) → hash ≡ i - 1 → hash < length ss → s ≡ get_or ss hash s
+      → IsHome xs k s.shard
+  found s hash is_at within is =
       let h = home_is xs k tree below in
       let member = starts.of.whole (home_among (filter is_open xs) k) h.state h.made h.is_open_now in
       let first = open_start_of h.state (home_among (filter is_open xs) k) in
       let e : (get_or ss member.0 first).key ≡ h.state.range.start = ap (λ (t : OpenStart). t.key) member.2 in
       let low : h.state.range.start ≤ k = h.contains.0 in
       let high : k ≤ h.state.range.end = h.contains.1 in
-      let before : member.0 < i = before_point member.0 first member.1 (omega arith) in
+      let is_before : member.0 < i = before_point member.0 first member.1 (omega arith) in
       let le : s.key ≤ k = at_most s.key k
       (subst (λ (t : OpenStart). leb t.key k ≡ true) (sym is)
-      (point.0 at s (omega arith) (omega arith))) in
-      let rises : (get_or ss member.0 s).key ≤ (get_or ss at s).key =
-      starts.order member.0 at s (omega arith) within in
-      let same_default : get_or ss member.0 first ≡ get_or ss member.0 s = default_at ss member.0 first s member.1 in
+      (point.0 hash s (omega arith) (omega arith))) in
+      let rises : (get_or ss member.0 s).key ≤ (get_or ss hash s).key =
+      starts.order member.0 hash s (omega arith) within in
+      let same_default : get_or ss member.0 first ≡ get_or ss member.0 s =
+      get_or_default ss member.0 first s member.1 in
       let e' : (get_or ss member.0 s).key ≡ h.state.range.start = ap (λ (t : OpenStart). t.key) (sym same_default)
       ∙ e in
-      let top : (get_or ss at s).key ≡ s.key = ap (λ (t : OpenStart). t.key) (sym is) in
-      let stands = subst (λ (t : OpenStart). IsStart xs t) (sym is) (starts.of.each at s within) in
+      let top : (get_or ss hash s).key ≡ s.key = ap (λ (t : OpenStart). t.key) (sym is) in
+      let stands = subst (λ (t : OpenStart). IsStart xs t) (sym is) (starts.of.each hash s within) in
       let ordered : IsOrdered stands.state =
       all_made IsOrdered xs s.shard stands.state tree.tiled.ordered stands.made in
       let key_below : s.key < 2 ^ 128 = omega arith in
@@ -75,13 +70,12 @@ module _ (xs : List ShardState) (ss : List OpenStart) (k i : ℕ) (tree : IsTree
       in_h in
       subst (IsHome xs k) (sym same) h
 
-  -- There is a start right before the index `i`, so at least one start is at or below the key `k`.
-  pub some_start : (at : ℕ) → at ≡ i - 1 → at < length ss
-  some_start at is_at =
+  pub some_start : (hash : ℕ) → hash ≡ i - 1 → hash < length ss
+  some_start hash is_at =
       let h = home_is xs k tree below in
       let member = starts.of.whole (home_among (filter is_open xs) k) h.state h.made h.is_open_now in
       let first = open_start_of h.state (home_among (filter is_open xs) k) in
       let e : (get_or ss member.0 first).key ≡ h.state.range.start = ap (λ (t : OpenStart). t.key) member.2 in
       let low : h.state.range.start ≤ k = h.contains.0 in
-      let before : member.0 < i = before_point member.0 first member.1 (omega arith) in
-      omega (arith, is_at, before, member.1, bound)
+      let is_before : member.0 < i = before_point member.0 first member.1 (omega arith) in
+      omega (arith, is_at, is_before, member.1, bound)

@@ -1,4 +1,4 @@
--- The hash keys in the list of starts are the first keys of the ranges of the open shards, in rising order.
+-- The hash keys in the list of starts are the first keys of the open shards, in rising order.
 use Rattle.std.proofs.Common.{◌≡◌, ℕ, suc, ◌+◌, ◌<◌, ◌≤◌, Bool, true, false, List, [], ◌∷◌, length, get_or, map, refl}
 use Rattle.std.proofs.Common.{sym, ap, subst, ◌∙◌, arith}
 use Rattle.std.specs.Prelude.{cond, ◌==◌, nat_lt}
@@ -8,7 +8,7 @@ use Rattle.kds_base.proofs.Facts.{is_itself, is_other}
 use Rattle.kds_defs.specs.Scaling.{RiseFrom, with_start}
 use Rattle.kds_defs.specs.ScaleCommands.{starts_among}
 use Rattle.kds_defs.specs.Shards.{ShardState, is_open}
-use Rattle.kds_defs.proofs.Rising.{lower}
+use Rattle.kds_defs.proofs.Rising.{lower, one_of}
 use Rattle.kds_tree.specs.Starts.{AreStarts, own_start, starting_keys}
 use Rattle.kds_tree.specs.Tree.{IsTree}
 use Rattle.kds_tree.specs.declared.start.OpenStart.{OpenStart}
@@ -16,12 +16,12 @@ use Rattle.kds_tree.proofs.Risings.{tree_rises}
 
 -- ---- Two lists that never fall are equal if each key is equally often in both
 
--- How often the key `k` is in a list.
+-- How often the key is in the list.
 abbrev times : ℕ → List ℕ → ℕ
 times k [] = 0
 times k (x ∷ xs) = cond (x == k) 1 0 + times k xs
 
--- The first number of a list isn't below `n`, and no number is below the one before it.
+-- The numbers never fall, from `n` or above.
 abbrev NoneFalls : ℕ → List ℕ → Type 0
 NoneFalls n [] = Unit {0}
 NoneFalls n (x ∷ xs) = (n ≤ x) × NoneFalls x xs
@@ -48,9 +48,6 @@ same_tail : (x y k : ℕ) (xs ys : List ℕ) → x ≡ y → times k (x ∷ xs) 
 same_tail x y k xs ys same e = let c : cond (x == k) 1 0 + 0 ≡ cond (y == k) 1 0 + 0 =
     ap (λ (z : ℕ). cond (z == k) 1 0 + 0) same in omega arith
 
-one_of : (x y : ℕ) → (x < y → ⊥) → (y < x → ⊥) → x ≡ y
-one_of x y a b = omega arith
-
 same_lists : (n : ℕ) (xs ys : List ℕ) → NoneFalls n xs → NoneFalls n ys → ((k : ℕ) → times k xs ≡ times k ys) → xs ≡ ys
 same_lists n [] [] r t e = refl
 same_lists n [] (y ∷ ys) r t e = absurd (omega (arith, e y, first_times y ys))
@@ -69,13 +66,11 @@ times_by : (lt : Bool) (k b x : ℕ) (xs more : List ℕ) → times k more ≡ c
 times_by true k b x xs more h = refl
 times_by false k b x xs more h = omega arith
 
--- Let the key `b` be inserted into a list of first keys. Then `b` is in the list once more than before, and each other
--- key is in it as often as before.
 times_with : (k b : ℕ) (xs : List ℕ) → times k (with_start b xs) ≡ cond (b == k) 1 0 + times k xs
 times_with k b [] = refl
 times_with k b (x ∷ xs) = times_by (nat_lt b x) k b x xs (with_start b xs) (times_with k b xs)
 
--- Whether the start `s` has the key `k`.
+-- Whether the start has this key.
 abbrev has_key : ℕ → OpenStart → Bool
 has_key k s = s.key == k
 
@@ -107,8 +102,6 @@ none_falls n (s ∷ ss) order above =
     λ i j d le within. order (suc i) (suc j) d (omega arith) (omega arith) in
     (above s (omega arith), none_falls s.key ss later (λ d some. order 0 1 d (omega arith) (omega arith)))
 
--- If the starts `ss` are right for the shards `xs` (`AreStarts`), their keys are the first keys of the open shards in
--- rising order (`starts_among`).
 pub same_keys : (ss : List OpenStart) (xs : List ShardState) → AreStarts ss xs → IsTree xs
     → starting_keys ss ≡ starts_among (filter is_open xs)
 same_keys ss xs starts tree =

@@ -1,5 +1,4 @@
--- The list of the starts of the open shards is right for a new stream, and it stays right after a split or a merge
--- (`AreStarts`). The start of a shard consists of its number and the first hash key of its range.
+-- The list of starts is right for a new stream, and stays right after splits and merges.
 use Rattle.std.proofs.Common.{◌≡◌, inl, inr, ℕ, zero, suc, ◌+◌, ◌<◌, Bool, true, false, List, [], ◌∷◌, ◌++◌, length}
 use Rattle.std.proofs.Common.{get_or, map, Some, refl, sym, ap, subst, ◌∙◌, arith}
 use Rattle.std.specs.Prelude.{◌≢◌, ◌⊎◌, ◌==◌, ◌&&◌, not, slice_get, cond}
@@ -14,7 +13,7 @@ use Rattle.std.proofs.lemmas.List.Sums.{length-filter}
 use Rattle.kds_base.proofs.Facts.{apart}
 use Rattle.kds_defs.specs.Shards.{ShardState, Closing, is_open, with_closed}
 use Rattle.kds_defs.specs.Tiled.{AreNumbered}
-use Rattle.kds_defs.proofs.Numbers.{numbered-closed}
+use Rattle.kds_defs.proofs.Numbers.{numbered-closed, length-closed}
 use Rattle.kds_tree.specs.Starts.{IsStart, AreOf, AreStarts, open_starts, own_start, open_start_of, stays}
 use Rattle.kds_tree.specs.declared.start.OpenStart.{OpenStart}
 use Rattle.kds_tree.proofs.Homes.{number_at}
@@ -39,7 +38,6 @@ filter_step p true true s ss ts is h = ap (λ d. cond d (s ∷ filter p ss) (fil
 filter_step p true false s ss ts is h = ap (λ d. cond d (s ∷ filter p ss) (filter p ss)) is ∙ h
 filter_step p false c s ss ts is h = h
 
--- Filtering starts by one test and then by another keeps the starts that pass both tests.
 filter_both : (p q : OpenStart → Bool) (ss : List OpenStart) → filter p (filter q ss) ≡ filter (λ s. q s && p s) ss
 filter_both p q [] = refl
 filter_both p q (s ∷ ss) =
@@ -53,7 +51,6 @@ length-map : (xs : List ShardState) → length (map own_start xs) ≡ length xs
 length-map [] = refl
 length-map (x ∷ xs) = ap suc (length-map xs)
 
--- There are as many starts as open shards.
 pub open_many : (ss : List OpenStart) (xs : List ShardState) → AreStarts ss xs → length ss ≡ length (filter is_open xs)
 open_many ss xs starts = ap length (sym (filter_any ss)) ∙ starts.many (λ s. true)
     ∙ ap length (filter_any (open_starts xs)) ∙ length-map (filter is_open xs)
@@ -96,21 +93,18 @@ contains_left p (y ∷ ys) s (suc k) lt is t =
 
 -- ---- Indexes in two lists, one after the other
 
--- The element at the index `i` of `xs` is also at the index `i` of `xs` followed by `ys`.
 pub get_front : {A : Type 0} → (xs ys : List A) (i : ℕ) (x : A) → slice_get xs i ≡ Some x
     → slice_get (xs ++ ys) i ≡ Some x
 get_front [] ys i x is = absurd cc
 get_front (z ∷ zs) ys zero x is = is
 get_front (z ∷ zs) ys (suc i) x is = get_front zs ys i x is
 
--- The element at the index `length xs + i` of `xs` followed by `ys` is the element at the index `i` of `ys`.
 pub get_back : {A : Type 0} → (xs ys : List A) (i : ℕ) → slice_get (xs ++ ys) (length xs + i) ≡ slice_get ys i
 get_back [] ys i = let e : 0 + i ≡ i = omega arith in ap (slice_get ys) e
 get_back (z ∷ zs) ys i = let e : suc (length zs) + i ≡ suc (length zs + i) = omega arith in
     ap (slice_get (z ∷ zs ++ ys)) e ∙ get_back zs ys i
 
--- The shard `x` is in the list `ys`, which comes after `n` other shards, and `i` is the index of `x` among all of these
--- shards.
+-- The shard `x` is in `ys`, which comes after `n` other shards, and `i` is its index among all of them.
 pub record IsBehind (ys : List ShardState) (n i : ℕ) (x : ShardState) : Type 0 where
   pub index : ℕ
   pub at : slice_get ys index ≡ Some x
@@ -119,8 +113,6 @@ pub record IsBehind (ys : List ShardState) (n i : ℕ) (x : ShardState) : Type 0
 behind_more : (ys : List ShardState) (n i : ℕ) (x : ShardState) → IsBehind ys n i x → IsBehind ys (suc n) (suc i) x
 behind_more ys n i x h = record { index = h.index; at = h.at; is = omega (arith, h.is) }
 
--- If the shard `x` is at the index `i` of `xs` followed by `ys`, it is at this index of `xs`, or it is in `ys`
--- (`IsBehind`).
 pub get_cases : (xs ys : List ShardState) (i : ℕ) (x : ShardState) → slice_get (xs ++ ys) i ≡ Some x
     → (slice_get xs i ≡ Some x) ⊎ IsBehind ys (length xs) i x
 get_cases [] ys i x is = inr (record { index = i; at = is; is = omega arith })
@@ -143,20 +135,19 @@ start_choice false xs y ys h rest = rest
 each_from : (xs ys : List ShardState) (n : ℕ) → AreNumbered n ys
     → ((i : ℕ) (y : ShardState) → slice_get ys i ≡ Some y → slice_get xs (n + i) ≡ Some y)
     → AllByRecursion (IsStart xs) (open_starts ys)
-each_from xs [] n numbers at = tt
-each_from xs (y ∷ ys) n numbers at =
+each_from xs [] n numbers is_at = tt
+each_from xs (y ∷ ys) n numbers is_at =
     let e : n + 0 ≡ y.no = omega (arith, numbers.0) in
     start_choice (is_open y) xs y (filter is_open ys)
     (λ open_now. record {
       state = y;
-      made = ap (slice_get xs) (sym e) ∙ at 0 y refl;
+      made = ap (slice_get xs) (sym e) ∙ is_at 0 y refl;
       is_open_now = open_now;
       begins = refl;
     })
     (each_from xs ys (n + 1) numbers.1 (λ i z is. let f : n + 1 + i ≡ n + suc i = omega arith in
-    ap (slice_get xs) f ∙ at (suc i) z is))
+    ap (slice_get xs) f ∙ is_at (suc i) z is))
 
--- If the shards `xs` are numbered in their order, the starts `open_starts xs` are those of the open shards (`AreOf`).
 pub made_starts : (xs : List ShardState) → AreNumbered 0 xs → AreOf (open_starts xs) xs
 made_starts xs numbers = record {
   each = All-from_recursion (IsStart xs) (open_starts xs)
@@ -166,25 +157,22 @@ made_starts xs numbers = record {
       subst (λ (k : ℕ). Contains (open_starts xs) (open_start_of x k)) e (contains_open xs i x is open_now);
 }
 
--- Let the starts `ss` be those of the open shards, each as often as among `open_starts`. If `ts` has the starts of `ss`
--- in the order of their keys, `ts` is right (`AreStarts`).
 pub in_order : (xs : List ShardState) (ss ts : List OpenStart) → AreOf ss xs
     → ((p : OpenStart → Bool) → length (filter p ss) ≡ length (filter p (open_starts xs))) → IsPermutation ss ts
     → IsNonDecreasingBy (λ (s : OpenStart). s.key) ts → AreStarts ts xs
 unfolding tally
-in_order xs ss ts of many same order = record {
+in_order xs ss ts is_of many same order = record {
   many = λ p. tally_same p ss ts same ∙ many p;
   of = record {
-    each = All-permutation (IsStart xs) ss ts same of.each;
-    whole = λ i x is open_now. Contains-permutation ss ts (open_start_of x i) same (of.whole i x is open_now);
+    each = All-permutation (IsStart xs) ss ts same is_of.each;
+    whole = λ i x is open_now. Contains-permutation ss ts (open_start_of x i) same (is_of.whole i x is open_now);
   };
   order = order;
 }
 
 -- ---- Two shards are closed, and others are added at the end
 
--- The shards `closed` are `xs` with the shards `sh` and `other` closed. All other shards are kept, and only these can
--- be open in `closed`. The starts of the open shards are those before without the starts of `sh` and `other`.
+-- The shards with only `sh` and `other` closed, so that only the starts of these two go.
 pub record Closes (xs closed : List ShardState) (sh other : ℕ) : Type 0 where
   pub kept : (i : ℕ) (x : ShardState) → i ≢ sh → i ≢ other → slice_get xs i ≡ Some x → slice_get closed i ≡ Some x
   pub back : (i : ℕ) (x : ShardState) → slice_get closed i ≡ Some x → is_open x ≡ true → (slice_get xs i ≡ Some x)
@@ -220,38 +208,36 @@ module _ (xs closed born : List ShardState) (sh other : ℕ) (closes : Closes xs
   whole_by : (ss : List OpenStart) → AreOf ss xs → (i : ℕ) (x : ShardState) → is_open x ≡ true
       → (slice_get closed i ≡ Some x) ⊎ IsBehind born (length closed) i x
       → Contains (filter (stays sh other) ss ++ open_starts born) (open_start_of x i)
-  whole_by ss of i x open_now (inl h) =
+  whole_by ss is_of i x open_now (inl h) =
       let was = closes.back i x h open_now in
-      let member = of.whole i x was.0 open_now in
+      let member = is_of.whole i x was.0 open_now in
       Contains-append_left (filter (stays sh other) ss) (open_starts born) (open_start_of x i)
       (contains_left (stays sh other) ss (open_start_of x i) member.0 member.1 member.2
       (passes_by sh other (open_start_of x i) was.1 was.2))
-  whole_by ss of i x open_now (inr h) =
+  whole_by ss is_of i x open_now (inr h) =
       let e : x.no ≡ i = omega (arith, number_at born (length xs) h.index x numbers h.at, h.is, closes.long) in
       Contains-append_right (filter (stays sh other) ss) (open_starts born) (open_start_of x i)
       (subst (λ (k : ℕ). Contains (open_starts born) (open_start_of x k)) e
       (contains_open born h.index x h.at open_now))
 
-  -- Let two shards be closed, and let the shards `born` be added at the end. Then the starts before, without those of
-  -- the closed shards, and the starts of `born` are together those of the open shards (`AreOf`).
   pub changed : (ss : List OpenStart) → AreOf ss xs
       → AreOf (filter (stays sh other) ss ++ open_starts born) (closed ++ born)
-  changed ss of = record {
-    each = All-append (IsStart (closed ++ born)) (filter (stays sh other) ss) (open_starts born) (still ss of.each)
+  changed ss is_of = record {
+    each = All-append (IsStart (closed ++ born)) (filter (stays sh other) ss) (open_starts born) (still ss is_of.each)
         (All-from_recursion (IsStart (closed ++ born)) (open_starts born)
         (each_from (closed ++ born) born (length xs) numbers born_at));
-    whole = λ i x is open_now. whole_by ss of i x open_now (get_cases closed born i x is);
+    whole = λ i x is open_now. whole_by ss is_of i x open_now (get_cases closed born i x is);
   }
 
 open-append : (xs ys : List ShardState) → open_starts (xs ++ ys) ≡ open_starts xs ++ open_starts ys
 open-append [] ys = refl
-open-append (x ∷ xs) ys = by (is_open x) (open-append xs ys)
+open-append (x ∷ xs) ys = cases (is_open x) (open-append xs ys)
   where
-    by : (b : Bool) → open_starts (xs ++ ys) ≡ open_starts xs ++ open_starts ys
+    cases : (b : Bool) → open_starts (xs ++ ys) ≡ open_starts xs ++ open_starts ys
         → map own_start (cond b (x ∷ filter is_open (xs ++ ys)) (filter is_open (xs ++ ys)))
         ≡ map own_start (cond b (x ∷ filter is_open xs) (filter is_open xs)) ++ open_starts ys
-    by true h = ap (λ ss. own_start x ∷ ss) h
-    by false h = h
+    cases true h = ap (λ ss. own_start x ∷ ss) h
+    cases false h = h
 
 many_changed : (xs closed born : List ShardState) (sh other : ℕ) → Closes xs closed sh other → AreNumbered 0 xs
     → (ss : List OpenStart) → AreStarts ss xs
@@ -269,8 +255,7 @@ many_changed xs closed born sh other closes numbers ss starts p =
     ∙ sym (tally-append p (open_starts closed) (open_starts born))
     ∙ ap (tally p) (sym (open-append closed born))
 
--- Let the starts of the shards that stay open be followed by those of the new shards `born`, and let all be put in the
--- order of their keys. The result is right after a split or a merge (`AreStarts`).
+-- Starts that stay and starts of new shards, in the order of keys, are right after a split or merge.
 pub reshaped : (xs closed born : List ShardState) (sh other : ℕ) → Closes xs closed sh other
     → AreNumbered (length xs) born → AreNumbered 0 xs
     → (ss more ts : List OpenStart) → AreStarts ss xs → more ≡ filter (stays sh other) ss ++ open_starts born
@@ -301,11 +286,6 @@ closed_same (y ∷ ys) zero closing x is =
     sym (ap is_open e)
 closed_same (y ∷ ys) (suc sh) closing x is = closed_same ys sh closing x is
 
-length-closed : (xs : List ShardState) (sh : ℕ) (closing : Closing) → length (with_closed sh closing xs) ≡ length xs
-length-closed [] sh closing = refl
-length-closed (x ∷ xs) zero closing = refl
-length-closed (x ∷ xs) (suc sh) closing = ap suc (length-closed xs sh closing)
-
 open_apart : (xs : List ShardState) (sh i : ℕ) (closing : Closing) (x : ShardState)
     → slice_get (with_closed sh closing xs) i ≡ Some x → is_open x ≡ true → i ≢ sh
 open_apart xs sh i closing x is open_now e =
@@ -315,7 +295,7 @@ open_apart xs sh i closing x is open_now e =
 
 -- ---- The starts that are left after shards are closed
 
--- Whether the start `s` belongs to a shard other than shard `k`.
+-- Whether the start belongs to another shard than `k`.
 abbrev is_other : ℕ → OpenStart → Bool
 is_other k s = not (s.shard == k)
 
@@ -373,18 +353,16 @@ closed_twice [] sh closing = refl
 closed_twice (x ∷ xs) zero closing = refl
 closed_twice (x ∷ xs) (suc sh) closing = ap (λ ys. x ∷ ys) (closed_twice xs sh closing)
 
--- If the shard `sh` is closed, `Closes` holds of the list before and the list after, with `sh` in both places.
 pub closes_one : (xs : List ShardState) (sh : ℕ) (closing : Closing) → Closes xs (with_closed sh closing xs) sh sh
 closes_one xs sh closing = record {
   kept = λ i x apart again is. closed_other xs sh i closing apart ∙ is;
   back = λ i x is open_now.
       let apart = open_apart xs sh i closing x is open_now in
       (sym (closed_other xs sh i closing apart) ∙ is, apart, apart);
-  long = length-closed xs sh closing;
+  long = length-closed sh closing xs;
   left = λ numbers. left_two xs sh sh closing numbers ∙ ap open_starts (closed_twice xs sh closing);
 }
 
--- If the shards `sh` and `other` are closed one after the other, `Closes` holds of the list before and the list after.
 pub closes_two : (xs : List ShardState) (sh other : ℕ) (closing : Closing)
     → Closes xs (with_closed other closing (with_closed sh closing xs)) sh other
 closes_two xs sh other closing =
@@ -396,6 +374,6 @@ closes_two xs sh other closing =
           let is' : slice_get once i ≡ Some x = sym (closed_other once other i closing apart') ∙ is in
           let apart = open_apart xs sh i closing x is' open_now in
           (sym (closed_other xs sh i closing apart) ∙ is', apart, apart');
-      long = length-closed once other closing ∙ length-closed xs sh closing;
+      long = length-closed other closing once ∙ length-closed sh closing xs;
       left = left_two xs sh other closing;
     }

@@ -1,9 +1,10 @@
--- A page that has room for all listed shards lacks none of them, and a number that no shard has adds nothing to a page.
+-- A page with room for all listed shards lacks none, and a number that no shard has adds nothing.
 use Rattle.std.proofs.Common.{◌≡◌, ℕ, zero, suc, ◌≤◌, false, List, [], ◌∷◌, ◌++◌, length, take, Option, None, refl, sym}
 use Rattle.std.proofs.Common.{ap, subst, arith}
 use Rattle.std.specs.Prelude.{nat_lt, slice_get}
 use Rattle.std.proofs.lemmas.Bool.Decides.{nat_tests}
 use Rattle.std.proofs.lemmas.List.{append-nil}
+use Rattle.std.proofs.lemmas.Option.{slice_get_past}
 use Rattle.kds_base.specs.declared.lease_key.ShardRef.{ShardRef}
 use Rattle.kds_defs.specs.declared.reply.Shard.{Shard}
 use Rattle.kds_defs.specs.Listings.{refs_of}
@@ -23,21 +24,13 @@ whole : (limit : ℕ) (listed : List Shard) → length listed ≤ limit → List
 whole limit listed few =
     record { shards = sym (take_whole limit listed few); told = false_lt limit (length listed) few }
 
-beyond : (xs : List ShardState) (i : ℕ) → length xs ≤ i → slice_get xs i ≡ None
-beyond [] i le = refl
-beyond (x ∷ xs) zero le = absurd (omega arith)
-beyond (x ∷ xs) (suc i) le = beyond xs i (omega arith)
-
 lt_false : (n m : ℕ) → false ≡ nat_lt n m → m ≤ n
 lt_false n m e = grind (arith, nat_tests)
 
--- If `number` isn't below the number of shards, no shard is at this index.
 pub none_there : (xs : List ShardState) (i number : ℕ) → i ≡ number → false ≡ nat_lt i (length xs)
     → slice_get xs number ≡ None
-none_there xs i number is e = beyond xs number (omega (arith, is, lt_false i (length xs) e))
+none_there xs i number is e = slice_get_past xs number (omega (arith, is, lt_false i (length xs) e))
 
--- Let the page `listed` have at most `limit` shards, and let `o` be None. Then `listed` is also the page of the list
--- with `o` added, and no shards remain after this page (`Lists` with `more` false).
 pub none_more : (limit : ℕ) (cut : Option ℕ) (listed : List Shard) (o : Option ShardState) → o ≡ None
     → length listed ≤ limit
     → Lists limit (listed ++ listing cut (picked_before o [])) listed false
@@ -45,7 +38,6 @@ none_more limit cut listed o none few =
     subst (λ (p : Option ShardState). Lists limit (listed ++ listing cut (picked_before p [])) listed false) (sym none)
     (subst (λ (us : List Shard). Lists limit us listed false) (sym (append-nil listed)) (whole limit listed few))
 
--- If there is no shard to add, the list of keys stays as it is.
 pub no_key : (s floor : ℕ) (keys : List ShardRef) (o : Option ShardState) → o ≡ None
     → keys ≡ keys ++ refs_of s (listed_among floor (picked_before o []))
 no_key s floor keys o none =

@@ -1,5 +1,4 @@
--- A split or a merge, as the code makes it in a list of shards, has the result that the definitions state, and keeps
--- the invariants of the shard tree.
+-- Splits and merges as the code makes them have the defined result and keep the shard tree's invariants.
 use Rattle.std.proofs.Common.{◌≡◌, ℕ, zero, suc, ◌+◌, ◌-◌, ◌*◌, ◌/◌, ◌^◌, ◌<◌, ◌≤◌, Bool, true, false, List, [], ◌∷◌}
 use Rattle.std.proofs.Common.{◌++◌, length, map, Option, Some, None, refl, sym, ap, subst, ◌∙◌, arith}
 use Rattle.std.specs.Prelude.{Result, Ok, Err, slice_get, slice_set, slice_index_or, not, is_some, if◌then◌else◌}
@@ -30,7 +29,8 @@ use Rattle.kds_tree.specs.Tree.{IsTree, IsWithinKeys, split_refusal, merge_refus
 
 -- ---- What is known of a split or a merge that isn't refused
 
-passed : (b : Bool) (r : Refusal) (o : Option Refusal) → (if not b then Some r else o) ≡ None → (b ≡ true) × (o ≡ None)
+pub passed : (b : Bool) (r : Refusal) (o : Option Refusal) → (if not b then Some r else o) ≡ None
+    → (b ≡ true) × (o ≡ None)
 passed true r o h = (refl, h)
 passed false r o h = absurd cc
 
@@ -38,16 +38,15 @@ there : (o : Option ShardState) → is_some o ≡ true → (x : ShardState) × (
 there None h = absurd cc
 there (Some x) h = (x, refl)
 
--- Shard `sh` of `xs` is open, and the key `at` lies inside its range, so that neither part is empty.
-pub record CanSplit (xs : List ShardState) (sh at : ℕ) : Type 0 where
+-- Shard `sh` is open, and the key lies inside its range, so that neither part is empty.
+pub record CanSplit (xs : List ShardState) (sh hash : ℕ) : Type 0 where
   pub state : ShardState
   pub made : slice_get xs sh ≡ Some state
   pub is_open_now : is_open state ≡ true
-  pub inside : is_inside state.range at ≡ true
+  pub inside : is_inside state.range hash ≡ true
 
--- If a split isn't refused, the shard is open, and the key lies inside its range (`CanSplit`).
-pub can_split : (xs : List ShardState) (sh at : ℕ) → split_refusal xs sh at ≡ None → CanSplit xs sh at
-can_split xs sh at h =
+pub can_split : (xs : List ShardState) (sh hash : ℕ) → split_refusal xs sh hash ≡ None → CanSplit xs sh hash
+can_split xs sh hash h =
     let a = passed _ _ _ h in
     let b = passed _ _ _ a.1 in
     let d = passed _ _ _ b.1 in
@@ -56,10 +55,10 @@ can_split xs sh at h =
       state = x.0;
       made = x.1;
       is_open_now = subst (λ o. is_open_at o ≡ true) x.1 b.0;
-      inside = subst (λ o. is_inside (range_of o) at ≡ true) x.1 d.0;
+      inside = subst (λ o. is_inside (range_of o) hash ≡ true) x.1 d.0;
     }
 
--- The shards `sh` and `other` of `xs` are open, and their ranges are adjacent.
+-- Both shards are open, and their ranges are adjacent.
 pub record CanMerge (xs : List ShardState) (sh other : ℕ) : Type 0 where
   pub state : ShardState
   pub beside : ShardState
@@ -69,7 +68,6 @@ pub record CanMerge (xs : List ShardState) (sh other : ℕ) : Type 0 where
   pub other_open : is_open beside ≡ true
   pub touch : are_adjacent state.range beside.range ≡ true
 
--- If a merge isn't refused, the two shards are open, and their ranges are adjacent (`CanMerge`).
 pub can_merge : (xs : List ShardState) (sh other : ℕ) → merge_refusal xs sh other ≡ None → CanMerge xs sh other
 can_merge xs sh other h =
     let a = passed _ _ _ h in
@@ -116,11 +114,9 @@ chosen_within : (b : Bool) (x y : Span) → x.end < 2 ^ 128 → y.end < 2 ^ 128 
 chosen_within true x y h g = h
 chosen_within false x y h g = g
 
-lower_within : (r : Span) (at : ℕ) → is_inside r at ≡ true → r.end < 2 ^ 128 → at - 1 < 2 ^ 128
-lower_within r at inside h = grind (arith, nat_tests)
+lower_within : (r : Span) (hash : ℕ) → is_inside r hash ≡ true → r.end < 2 ^ 128 → hash - 1 < 2 ^ 128
+lower_within r hash inside h = grind (arith, nat_tests)
 
--- If `n` ranges of the width `width` from the key `start` on fit below 2^128, the shards with the `n` uniform ranges
--- from `start` on end below 2^128.
 within_last : (width start n : ℕ) → start + n * width ≤ 2 ^ 128 → (i s : ℕ)
     → AllByRecursion IsWithinKeys (first_shards i s (uniform_from width start n))
 within_last width start zero fits i s = tt
@@ -131,13 +127,12 @@ within_last width start (suc (suc n)) fits i s =
     before_key : (start width n : ℕ) → start + suc (suc n) * width ≤ 2 ^ 128 → start + width - 1 < 2 ^ 128
     before_key start width n fits = omega arith
 
--- The shards keep their invariant (`IsTree`) after a split that isn't refused.
-pub tree_split : (xs : List ShardState) (sh at start : ℕ) (closing : Closing) → split_refusal xs sh at ≡ None
-    → IsTree xs → IsTree (split_shards sh at closing start xs)
-tree_split xs sh at start closing h tree =
-    let can = can_split xs sh at h in
-    let low = new_shard (length xs) (lower_part (range_of (slice_get xs sh)) at) (Some sh) None start in
-    let high = new_shard (length xs + 1) (upper_part (range_of (slice_get xs sh)) at) (Some sh) None start in
+pub tree_split : (xs : List ShardState) (sh hash start : ℕ) (closing : Closing) → split_refusal xs sh hash ≡ None
+    → IsTree xs → IsTree (split_shards sh hash closing start xs)
+tree_split xs sh hash start closing h tree =
+    let can = can_split xs sh hash h in
+    let low = new_shard (length xs) (lower_part (range_of (slice_get xs sh)) hash) (Some sh) None start in
+    let high = new_shard (length xs + 1) (upper_part (range_of (slice_get xs sh)) hash) (Some sh) None start in
     let n : length (with_closed sh closing xs) ≡ length xs = length-closed sh closing xs in
     let goes_on : AreNumbered (0 + length (with_closed sh closing xs)) (low ∷ high ∷ []) =
     numbered_two (0 + length (with_closed sh closing xs)) low high (omega arith) (omega arith) in
@@ -146,23 +141,22 @@ tree_split xs sh at start closing h tree =
           (numbered-closed 0 sh closing xs tree.numbered) goes_on;
       tiled =
           subst (λ o. IsTiled (with_closed sh closing xs
-          ++ (new_shard (length xs) (lower_part (range_of o) at) (Some sh) None start
-          ∷ new_shard (length xs + 1) (upper_part (range_of o) at) (Some sh) None start ∷ []))) (sym can.made)
-          (tiled_split xs sh (length xs) (length xs + 1) at start closing (Some sh) None can.state can.made
+          ++ (new_shard (length xs) (lower_part (range_of o) hash) (Some sh) None start
+          ∷ new_shard (length xs + 1) (upper_part (range_of o) hash) (Some sh) None start ∷ []))) (sym can.made)
+          (tiled_split xs sh (length xs) (length xs + 1) hash start closing (Some sh) None can.state can.made
           can.is_open_now can.inside tree.tiled);
       within =
           within-append (with_closed sh closing xs) (low ∷ high ∷ []) (within-closed xs sh closing tree.within) (
-            subst (λ o. (lower_part (range_of o) at).end < 2 ^ 128) (sym can.made)
-                (lower_within can.state.range at can.inside (within_at xs sh can.state can.made tree.within)),
+            subst (λ o. (lower_part (range_of o) hash).end < 2 ^ 128) (sym can.made)
+                (lower_within can.state.range hash can.inside (within_at xs sh can.state can.made tree.within)),
             (
-              subst (λ o. (upper_part (range_of o) at).end < 2 ^ 128) (sym can.made)
+              subst (λ o. (upper_part (range_of o) hash).end < 2 ^ 128) (sym can.made)
                   (within_at xs sh can.state can.made tree.within),
               tt,
             ),
           );
     }
 
--- The shards keep their invariant (`IsTree`) after a merge that isn't refused.
 pub tree_merged : (xs : List ShardState) (sh other start : ℕ) (closing : Closing) → merge_refusal xs sh other ≡ None
     → IsTree xs → IsTree (merged_shards sh other closing start xs)
 tree_merged xs sh other start closing h tree =
@@ -206,7 +200,6 @@ within_made : (n : ℕ) → n ≤ 500 → AllByRecursion IsWithinKeys (made_shar
 within_made zero high = tt
 within_made (suc n) high = within_last (2 ^ 128 / suc n) 0 (suc n) (omega arith) 0 1
 
--- The shards of a new stream with 1 to 500 shards meet the invariant (`IsTree`).
 pub tree_made : (n : ℕ) → 1 ≤ n → n ≤ 500 → IsTree (made_shards n 1)
 tree_made n low high =
     record { numbered = numbered-first 0 1 (uniform n); tiled = tiled_new n 1 low high; within = within_made n high }
@@ -215,26 +208,22 @@ tree_made n low high =
 
 closed_at : (xs ys : List ShardState) (i : ℕ) (x y : ShardState) (closing : Closing) → slice_get xs i ≡ Some x
     → y ≡ record x { closing = Some closing } → slice_set (xs ++ ys) i y ≡ with_closed i closing xs ++ ys
-closed_at [] ys i x y closing at is = absurd cc
-closed_at (z ∷ zs) ys zero x y closing at is =
+closed_at [] ys i x y closing is_at is = absurd cc
+closed_at (z ∷ zs) ys zero x y closing is_at is =
     let e : z ≡ x = cc in
     ap (λ s. s ∷ zs ++ ys) (is ∙ ap (λ (k : ShardState). let s : ShardState = record k { closing = Some closing } in
     s) (sym e))
-closed_at (z ∷ zs) ys (suc i) x y closing at is = ap (λ ss. z ∷ ss) (closed_at zs ys i x y closing at is)
+closed_at (z ∷ zs) ys (suc i) x y closing is_at is = ap (λ ss. z ∷ ss) (closed_at zs ys i x y closing is_at is)
 
 -- ---- What the code does
 
--- The list of starts stays right when the shards `xs`, which meet the invariant `IsTree`, become `zs`. Let `ss` be
--- right for `xs` (`AreStarts`). Then `ss` without the starts of `sh` and `other`, with the starts of `born` added, and
--- in the order of the keys, is right for `zs`.
+-- A right list of starts for `xs`, without `sh` and `other` and with the starts of `born`, is right for `zs`.
 abbrev pub StartsGo : List ShardState → ℕ → ℕ → List ShardState → List ShardState → Type 0
 StartsGo xs sh other born zs = IsTree xs → (ss more ts : List OpenStart) → AreStarts ss xs
     → more ≡ filter (stays sh other) ss ++ map own_start born → IsPermutation more ts
     → IsNonDecreasingBy (λ (s : OpenStart). s.key) ts → AreStarts ts zs
 
--- The index of first children still fits when the shards `xs` become `zs`. Let `firsts` fit `xs` (`AreFamilies`). Then
--- `firsts` fits `zs` after the first child of `sh` and of `other` is set to the number after those of `xs`, and the
--- entries `more` are added.
+-- An index that fits `xs` fits `zs`, once `sh` and `other` have the first new shard as their first child.
 abbrev pub FamiliesGo : List ShardState → ℕ → ℕ → List (Option ℕ) → List ShardState → Type 0
 FamiliesGo xs sh other more zs = (firsts : List (Option ℕ)) → AreFamilies firsts xs
     → AreFamilies (after_birth firsts sh other (length xs) more) zs
@@ -243,40 +232,35 @@ answered : {A : Type 0} (o : Option Refusal) (x y : A) → Ok x ≡ answer_by o 
 answered None x y h = let e : x ≡ y = cc in (refl, e)
 answered (Some r) x y h = absurd cc
 
--- If a split or a merge is refused, the shards are those before it.
-pub refused_value : {A : Type 0} (o : Option Refusal) (r : Refusal) (x : A) (before after : List ShardState)
-    → Err r ≡ answer_by o x → before ≡ value_by o before after
-refused_value None r x before after h = absurd cc
-refused_value (Some s) r x before after h = refl
+pub refused_value : {A : Type 0} (o : Option Refusal) (r : Refusal) (x : A) (old new : List ShardState)
+    → Err r ≡ answer_by o x → old ≡ value_by o old new
+refused_value None r x old new h = absurd cc
+refused_value (Some s) r x old new h = refl
 
--- If two answers that are refusals are equal, the refusals are equal.
 same_refusal : {A : Type 0} (r q : Refusal)
     → (let a : Result A Refusal = Err r in let b : Result A Refusal = Err q in a ≡ b) → r ≡ q
 same_refusal r q h = cc
 
--- If a split or a merge is refused with `r`, the answer is `r`, whatever the answer would be without the refusal.
 pub refused_answer : {A B : Type 0} (o : Option Refusal) (r : Refusal) (x : A) (y : B) → Err r ≡ answer_by o x
     → Err r ≡ answer_by o y
 refused_answer None r x y h = absurd cc
 refused_answer (Some q) r x y h = ap Err (same_refusal r q h)
 
--- The shard that the code reads at the index `i` of `xs` followed by `ys` is the shard `x` at this index of `xs`.
 read_at : (xs ys zs : List ShardState) (i : ℕ) (x old : ShardState) → zs ≡ xs ++ ys → slice_get xs i ≡ Some x
     → old ≡ slice_index_or zs i old → x ≡ old
-read_at xs ys zs i x old is at read =
+read_at xs ys zs i x old is is_at read =
     sym (
     read
     ∙ ap (λ (ss : List ShardState). slice_index_or ss i old) is
-    ∙ get_or_append_left xs ys old i (slice_get_within xs i x at)
-    ∙ get_or_from_slice_get xs i x old at
+    ∙ get_or_append_left xs ys old i (slice_get_within xs i x is_at)
+    ∙ get_or_from_slice_get xs i x old is_at
     )
 
--- The shards `zs` are `xs` after a split of shard `sh` at the key `at` that isn't refused, and `low` and `high` are the
--- new shards. The invariant of the shards, the list of starts and the index of first children stay right.
-pub record Splits (xs : List ShardState) (sh at start : ℕ) (closing : Closing) (low high : ShardState)
+-- The shards `zs` are `xs` after an allowed split, with all invariants kept.
+pub record Splits (xs : List ShardState) (sh hash start : ℕ) (closing : Closing) (low high : ShardState)
     (zs : List ShardState) : Type 0 where
-  pub allowed : split_refusal xs sh at ≡ None
-  pub value : zs ≡ split_shards sh at closing start xs
+  pub allowed : split_refusal xs sh hash ≡ None
+  pub value : zs ≡ split_shards sh hash closing start xs
   pub tree : IsTree xs → IsTree zs
   pub starts : StartsGo xs sh sh (low ∷ high ∷ []) zs
   pub families : FamiliesGo xs sh sh (None ∷ None ∷ []) zs
@@ -290,7 +274,6 @@ closed_in xs ys zs sh x closing old new made is read close =
     ∙ closed_at xs ys sh x new closing made (close
     ∙ ap (λ (k : ShardState). let s : ShardState = record k { closing = Some closing } in s) (sym e))
 
--- If there is a shard at the index `other`, there still is one after the shard at the index `sh` is closed.
 still_there : (xs : List ShardState) (sh other : ℕ) (closing : Closing) (y : ShardState) → slice_get xs other ≡ Some y
     → (z : ShardState) × (slice_get (with_closed sh closing xs) other ≡ Some z)
 still_there [] sh other closing y is = absurd cc
@@ -299,45 +282,43 @@ still_there (x ∷ xs) zero (suc other) closing y is = (y, is)
 still_there (x ∷ xs) (suc sh) zero closing y is = (x, refl)
 still_there (x ∷ xs) (suc sh) (suc other) closing y is = still_there xs sh other closing y is
 
--- The lower part and the upper part of the range `r` that is split at the key `at`.
+-- The lower and the upper part of a range that is split at a key.
 abbrev pub halves : Span → ℕ → Span × Span
-halves r at = (lower_part r at, upper_part r at)
+halves r hash = (lower_part r hash, upper_part r hash)
 
--- Let a split not be refused, and let the code add the two new shards at the end and then close the shard that is
--- split. Then the result is the one that `Splits` states.
-pub splits : (xs zs : List ShardState) (sh i at start a b s : ℕ) (closing : Closing) (ranges : Span
-    × Span) (low high old new : ShardState)
-    → Ok ranges ≡ answer_by (split_refusal xs sh at) (halves (range_of (slice_get xs sh)) at)
+pub splits : (xs zs : List ShardState) (sh i hash start a b s : ℕ) (closing : Closing) (ranges : Span × Span)
+    (low high old new : ShardState)
+    → Ok ranges ≡ answer_by (split_refusal xs sh hash) (halves (range_of (slice_get xs sh)) hash)
     → i ≡ sh → a ≡ length xs → b ≡ length xs → s ≡ start
     → low ≡ new_shard a ranges.0 (Some sh) None (s + 1)
     → high ≡ new_shard (b + 1) ranges.1 (Some sh) None (s + 1)
     → zs ≡ xs ++ low ∷ high ∷ []
     → old ≡ slice_index_or zs i old
     → new ≡ record old { closing = Some closing }
-    → Splits xs sh at (start + 1) closing low high (slice_set zs i new)
-splits xs zs sh i at start a b s closing ranges low high old new answer is_i is_a is_b is_s is_low is_high is read
+    → Splits xs sh hash (start + 1) closing low high (slice_set zs i new)
+splits xs zs sh i hash start a b s closing ranges low high old new answer is_i is_a is_b is_s is_low is_high is read
     close =
     let r = range_of (slice_get xs sh) in
-    let h = answered (split_refusal xs sh at) ranges (halves r at) answer in
-    let can = can_split xs sh at h.0 in
-    let lower : ranges.0 ≡ lower_part r at = ap (λ (p : Span × Span). p.0) h.1 in
-    let upper : ranges.1 ≡ upper_part r at = ap (λ (p : Span × Span). p.1) h.1 in
-    let e_low : low ≡ new_shard (length xs) (lower_part r at) (Some sh) None (start + 1) = cc in
-    let e_high : high ≡ new_shard (length xs + 1) (upper_part r at) (Some sh) None (start + 1) = cc in
-    let value : slice_set zs i new ≡ split_shards sh at closing (start + 1) xs =
+    let h = answered (split_refusal xs sh hash) ranges (halves r hash) answer in
+    let can = can_split xs sh hash h.0 in
+    let lower : ranges.0 ≡ lower_part r hash = ap (λ (p : Span × Span). p.0) h.1 in
+    let upper : ranges.1 ≡ upper_part r hash = ap (λ (p : Span × Span). p.1) h.1 in
+    let e_low : low ≡ new_shard (length xs) (lower_part r hash) (Some sh) None (start + 1) = cc in
+    let e_high : high ≡ new_shard (length xs + 1) (upper_part r hash) (Some sh) None (start + 1) = cc in
+    let value : slice_set zs i new ≡ split_shards sh hash closing (start + 1) xs =
     ap (λ (j : ℕ). slice_set zs j new) is_i
     ∙ closed_in xs (low ∷ high ∷ []) zs sh can.state closing old new can.made is (read
     ∙ ap (λ (j : ℕ). slice_index_or zs j old) is_i) close
     ∙ ap (λ (k : ShardState). with_closed sh closing xs ++ k ∷ high ∷ []) e_low
     ∙ ap (λ (k : ShardState). with_closed sh closing xs
-    ++ new_shard (length xs) (lower_part r at) (Some sh) None (start + 1) ∷ k ∷ []) e_high in
+    ++ new_shard (length xs) (lower_part r hash) (Some sh) None (start + 1) ∷ k ∷ []) e_high in
     record {
       allowed = h.0;
       value = value;
-      tree = λ tree. subst IsTree (sym value) (tree_split xs sh at (start + 1) closing h.0 tree);
+      tree = λ tree. subst IsTree (sym value) (tree_split xs sh hash (start + 1) closing h.0 tree);
       starts = λ tree ss more ts starts away same order.
-          let lower_child = new_shard (length xs) (lower_part r at) (Some sh) None (start + 1) in
-          let upper_child = new_shard (length xs + 1) (upper_part r at) (Some sh) None (start + 1) in
+          let lower_child = new_shard (length xs) (lower_part r hash) (Some sh) None (start + 1) in
+          let upper_child = new_shard (length xs + 1) (upper_part r hash) (Some sh) None (start + 1) in
           let is_born : low ∷ high ∷ [] ≡ lower_child ∷ upper_child ∷ [] =
           ap (λ (x : ShardState). x ∷ high ∷ []) e_low ∙ ap (λ (x : ShardState). lower_child ∷ x ∷ []) e_high in
           let away' = away ∙ ap (λ (born : List ShardState). filter (stays sh sh) ss ++ map own_start born) is_born in
@@ -346,30 +327,28 @@ splits xs zs sh i at start a b s closing ranges low high old new answer is_i is_
           (refl, (refl, tt)) tree.numbered ss more ts starts away' same order);
       families = λ firsts families.
           subst (AreFamilies (after_birth firsts sh sh (length xs) (None ∷ None ∷ []))) (sym value)
-          (split_families firsts xs sh (length xs) (length xs + 1) (start + 1) (lower_part r at) (upper_part r at)
+          (split_families firsts xs sh (length xs) (length xs + 1) (start + 1) (lower_part r hash) (upper_part r hash)
           closing
           can.state can.made can.is_open_now families);
     }
 
--- The index of the shard that is split is within the list after the two new shards were added.
-pub split_within : (xs zs : List ShardState) (sh i at : ℕ) (ranges : Span × Span) (low high : ShardState)
-    → Ok ranges ≡ answer_by (split_refusal xs sh at) (halves (range_of (slice_get xs sh)) at) → i ≡ sh
+pub split_within : (xs zs : List ShardState) (sh i hash : ℕ) (ranges : Span × Span) (low high : ShardState)
+    → Ok ranges ≡ answer_by (split_refusal xs sh hash) (halves (range_of (slice_get xs sh)) hash) → i ≡ sh
     → zs ≡ xs ++ low ∷ high ∷ [] → i < length zs
-split_within xs zs sh i at ranges low high answer is_i is =
-    let h = answered (split_refusal xs sh at) ranges (halves (range_of (slice_get xs sh)) at) answer in
-    let can = can_split xs sh at h.0 in
+split_within xs zs sh i hash ranges low high answer is_i is =
+    let h = answered (split_refusal xs sh hash) ranges (halves (range_of (slice_get xs sh)) hash) answer in
+    let can = can_split xs sh hash h.0 in
     omega (arith, is_i, slice_get_within xs sh can.state can.made, ap length is, length-append xs (low ∷ high ∷ []))
 
--- The index of first children has an entry for the shard that is split.
-pub split_known : (xs : List ShardState) (firsts kept : List (Option ℕ)) (sh at : ℕ) (ranges : Span × Span)
-    → Ok ranges ≡ answer_by (split_refusal xs sh at) (halves (range_of (slice_get xs sh)) at)
+pub split_known : (xs : List ShardState) (firsts kept : List (Option ℕ)) (sh hash : ℕ) (ranges : Span × Span)
+    → Ok ranges ≡ answer_by (split_refusal xs sh hash) (halves (range_of (slice_get xs sh)) hash)
     → AreFamilies firsts xs → kept ≡ firsts → sh < length kept
-split_known xs firsts kept sh at ranges answer families is =
-    let can = can_split xs sh at (answered (split_refusal xs sh at) ranges (halves (range_of (slice_get xs sh)) at)
+split_known xs firsts kept sh hash ranges answer families is =
+    let can = can_split xs sh hash
+    (answered (split_refusal xs sh hash) ranges (halves (range_of (slice_get xs sh)) hash)
     answer).0 in
     omega (arith, slice_get_within xs sh can.state can.made, families.long, ap length is)
 
--- The indexes of the two shards of a merge are within the list after the new shard was added.
 pub both_within : (xs zs : List ShardState) (sh other i j n : ℕ) (range joint : Span) (child : ShardState)
     → Ok range ≡ answer_by (merge_refusal xs sh other) joint → i ≡ sh → j ≡ other → n ≡ length zs
     → zs ≡ xs ++ child ∷ [] → (i < n) × (j < n)
@@ -380,7 +359,6 @@ both_within xs zs sh other i j n range joint child answer is_i is_j is_n more =
     let e : n ≡ length xs + 1 = is_n ∙ ap (λ (s : List ShardState). length s) more ∙ length-append xs (child ∷ []) in
     (omega arith, omega arith)
 
--- The index of first children has an entry for each of the two shards of a merge.
 pub both_known : (xs : List ShardState) (firsts kept : List (Option ℕ)) (sh other : ℕ) (range joint : Span)
     → Ok range ≡ answer_by (merge_refusal xs sh other) joint
     → AreFamilies firsts xs → kept ≡ firsts → (sh < length kept) × (other < length kept)
@@ -391,14 +369,15 @@ both_known xs firsts kept sh other range joint answer families is =
       omega (arith, slice_get_within xs other can.beside can.other_made, long),
     )
 
--- The front of the shards (`AreLeft`) stays a front after a split, because the shard that the split closes was open.
-pub front_split : (xs zs : List ShardState) (sh i at f n : ℕ) (names : List ℕ) (ranges : Span
-    × Span) (low high y : ShardState)
-    → Ok ranges ≡ answer_by (split_refusal xs sh at) (halves (range_of (slice_get xs sh)) at) → i ≡ sh
+-- The closed shard was open, and so not expired.
+pub front_split : (xs zs : List ShardState) (sh i hash f n : ℕ) (names : List ℕ) (ranges : Span × Span)
+    (low high y : ShardState)
+    → Ok ranges ≡ answer_by (split_refusal xs sh hash) (halves (range_of (slice_get xs sh)) hash) → i ≡ sh
     → zs ≡ xs ++ low ∷ high ∷ []
     → AreLeft f 0 n names xs → AreLeft f 0 n names (slice_set zs i y)
-front_split xs zs sh i at f n names ranges low high y answer is_i is front =
-    let can = can_split xs sh at (answered (split_refusal xs sh at) ranges (halves (range_of (slice_get xs sh)) at)
+front_split xs zs sh i hash f n names ranges low high y answer is_i is front =
+    let can = can_split xs sh hash
+    (answered (split_refusal xs sh hash) ranges (halves (range_of (slice_get xs sh)) hash)
     answer).0 in
     let more = xs ++ low ∷ high ∷ [] in
     let made : slice_get more sh ≡ Some can.state = get_front xs (low ∷ high ∷ []) sh can.state can.made in
@@ -407,7 +386,6 @@ front_split xs zs sh i at f n names ranges low high y answer is_i is front =
     (left_set f 0 n sh names more can.state y made can.is_open_now
     (left_append f 0 n names xs (low ∷ high ∷ []) front)))
 
--- The front of the shards (`AreLeft`) stays a front after a merge, because the shards that the merge closes were open.
 pub front_merge : (xs zs : List ShardState) (sh other i j f n : ℕ) (names : List ℕ) (range joint : Span)
     (child y z : ShardState)
     → Ok range ≡ answer_by (merge_refusal xs sh other) joint → i ≡ sh → j ≡ other → zs ≡ xs ++ child ∷ []
@@ -423,21 +401,18 @@ front_merge xs zs sh other i j f n names range joint child y z answer is_i is_j 
     (left_sets f 0 n sh other names more can.state can.beside y z made can.is_open_now made' can.other_open
     (left_append f 0 n names xs (child ∷ []) front))))
 
--- After a split or a merge that isn't refused, the shards are those that it makes.
-by_none : (o : Option Refusal) (before after zs : List ShardState) → o ≡ None → zs ≡ after
-    → zs ≡ value_by o before after
-by_none None before after zs none is = is
-by_none (Some r) before after zs none is = absurd cc
+by_none : (o : Option Refusal) (old new zs : List ShardState) → o ≡ None → zs ≡ new
+    → zs ≡ value_by o old new
+by_none None old new zs none is = is
+by_none (Some r) old new zs none is = absurd cc
 
--- After a split that isn't refused, the shards are those of the definition `split_shards`.
-pub split_value : (xs : List ShardState) (sh at start : ℕ) (closing : Closing) (low high : ShardState)
-    (zs : List ShardState) → Splits xs sh at start closing low high zs
-    → zs ≡ value_by (split_refusal xs sh at) xs (split_shards sh at closing start xs)
-split_value xs sh at start closing low high zs s =
-    by_none (split_refusal xs sh at) xs (split_shards sh at closing start xs) zs s.allowed s.value
+pub split_value : (xs : List ShardState) (sh hash start : ℕ) (closing : Closing) (low high : ShardState)
+    (zs : List ShardState) → Splits xs sh hash start closing low high zs
+    → zs ≡ value_by (split_refusal xs sh hash) xs (split_shards sh hash closing start xs)
+split_value xs sh hash start closing low high zs s =
+    by_none (split_refusal xs sh hash) xs (split_shards sh hash closing start xs) zs s.allowed s.value
 
--- The shards `zs` are `xs` after a merge of the shards `sh` and `other` that isn't refused, and `child` is the new
--- shard. The invariant of the shards, the list of starts and the index of first children stay right.
+-- The shards `zs` are `xs` after an allowed merge, with all invariants kept.
 pub record Merges (xs : List ShardState) (sh other start : ℕ) (closing : Closing) (child : ShardState)
     (zs : List ShardState) : Type 0 where
   pub allowed : merge_refusal xs sh other ≡ None
@@ -446,15 +421,12 @@ pub record Merges (xs : List ShardState) (sh other start : ℕ) (closing : Closi
   pub starts : StartsGo xs sh other (child ∷ []) zs
   pub families : FamiliesGo xs sh other (None ∷ []) zs
 
--- After a merge that isn't refused, the shards are those of the definition `merged_shards`.
 pub merge_value : (xs : List ShardState) (sh other start : ℕ) (closing : Closing) (child : ShardState)
     (zs : List ShardState) → Merges xs sh other start closing child zs
     → zs ≡ value_by (merge_refusal xs sh other) xs (merged_shards sh other closing start xs)
 merge_value xs sh other start closing child zs s =
     by_none (merge_refusal xs sh other) xs (merged_shards sh other closing start xs) zs s.allowed s.value
 
--- Let a merge not be refused, and let the code add the new shard at the end and then close the two shards. Then the
--- result is the one that `Merges` states.
 pub merges : (xs zs : List ShardState) (sh other i j start a s : ℕ) (closing : Closing) (range : Span)
     (child old new old' new' : ShardState)
     → Ok range ≡ answer_by (merge_refusal xs sh other)

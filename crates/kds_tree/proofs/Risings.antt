@@ -1,5 +1,4 @@
--- The first keys of the ranges of the open shards, in rising order, are the starts of a partition: they rise strictly,
--- and the first is 0.
+-- The first keys of the open shards' ranges, in rising order, are the starts of a partition.
 use Rattle.std.proofs.Common.{◌≡◌, ℕ, zero, suc, ◌+◌, ◌^◌, ◌<◌, ◌≤◌, Bool, true, false, List, [], ◌∷◌, refl, sym, ap}
 use Rattle.std.proofs.Common.{subst, ◌∙◌, arith}
 use Rattle.std.specs.Prelude.{cond, ◌==◌, ◌&&◌, ◌||◌}
@@ -18,32 +17,25 @@ use Rattle.kds_tree.specs.Tree.{IsTree, IsWithinKeys}
 
 -- ---- Where open shards start
 
--- Whether the range of an open shard of `xs` starts at the key `k`.
+-- Whether the range of an open shard starts at the key.
 abbrev pub begins_at : List ShardState → ℕ → Bool
 begins_at xs k = is_start (starts_among (filter is_open xs)) k
 
--- In the list with the shard `x` in front of `xs`, an open shard starts at the key `k` in exactly two cases: `x` is
--- open (`b`) and starts at `k`, or an open shard of `xs` starts at `k`.
 begins_with : (b : Bool) (x : ShardState) (xs : List ShardState) (k : ℕ)
     → is_start (starts_among (cond b (x ∷ filter is_open xs) (filter is_open xs))) k
     ≡ ((b && (x.range.start == k)) || begins_at xs k)
 begins_with true x xs k = in_with_start x.range.start (starts_among (filter is_open xs)) k
 begins_with false x xs k = refl
 
--- An open shard of `x ∷ xs` starts at the key `k` if and only if `x` is open and starts at `k`, or an open shard of
--- `xs` starts at `k`.
 pub begins_more : (x : ShardState) (xs : List ShardState) (k : ℕ)
     → begins_at (x ∷ xs) k ≡ ((is_open x && (x.range.start == k)) || begins_at xs k)
 begins_more x xs k = begins_with (is_open x) x xs k
 
 -- ---- The first keys rise strictly, because no two open shards contain the same key
 
--- A range that isn't empty contains its first key.
 pub one_here : (r : Span) → r.start ≤ r.end → one r r.start ≡ 1
 one_here r h = grind (arith, nat_tests)
 
--- Let the shard `x` be open (`b`), and let its range not be empty and start at the key `k` (`c`). Then `x` counts among
--- the open shards that contain `k`.
 counted_by : (b c : Bool) (x : ShardState) (k n : ℕ) → is_open x ≡ b → (x.range.start == k) ≡ c
     → x.range.start ≤ x.range.end → (b && c) ≡ true → 1 ≤ count_if b (one x.range k) + n
 counted_by true true x k n isb isc o h = let e : x.range.start ≡ k = equal_so x.range.start k isc in
@@ -55,7 +47,6 @@ either : (a b : Bool) (P : Type 0) → (a || b) ≡ true → (a ≡ true → P) 
 either true b P h f g = f refl
 either false b P h f g = g h
 
--- If no range is empty and an open shard starts at the key `k`, at least one open shard contains `k`.
 pub begins_counted : (xs : List ShardState) (k : ℕ) → AllByRecursion IsOrdered xs → begins_at xs k ≡ true
     → 1 ≤ open_times xs k
 begins_counted [] k o h = absurd cc
@@ -76,8 +67,6 @@ twice : (b : Bool) (x : ShardState) (n : ℕ) → b ≡ true → x.range.start �
 twice true x n h o few some = omega (arith, one_here x.range o, few, some)
 twice false x n h o few some = absurd cc
 
--- Suppose that no hash key is in the ranges of two open shards, that no range is empty, and that each range ends below
--- 2^128. Then the first keys of the open shards, sorted, rise strictly.
 pub open_rise : (xs : List ShardState) → ((k : ℕ) → k < 2 ^ 128 → open_times xs k ≤ 1) → AllByRecursion IsOrdered xs
     → AllByRecursion IsWithinKeys xs → RiseFrom 0 (starts_among (filter is_open xs))
 open_rise [] once o w = tt
@@ -89,7 +78,6 @@ open_rise (x ∷ xs) once o w =
     (begins_counted xs x.range.start o.1 h)))
     (open_rise xs (λ k below. let n : open_times (x ∷ xs) k ≤ 1 = once k below in omega arith) o.1 w.1)
 
--- If the shards `xs` meet the invariant `IsTree`, the first keys of the open shards, in rising order, rise strictly.
 pub tree_rises : (xs : List ShardState) → IsTree xs → RiseFrom 0 (starts_among (filter is_open xs))
 tree_rises xs tree = open_rise xs (λ k below. omega (arith, tree.tiled.times k below)) tree.tiled.ordered tree.within
 
@@ -99,14 +87,14 @@ zero_by : (b : Bool) (x : ShardState) (xs : List ShardState) (n : ℕ) → is_op
     → 1 ≤ count_if b (one x.range 0) + n → (1 ≤ n → begins_at xs 0 ≡ true)
     → ((b && (x.range.start == 0)) || begins_at xs 0) ≡ true
 zero_by false x xs n isb h rest = rest (omega arith)
-zero_by true x xs n isb h rest = by (x.range.start == 0) refl
+zero_by true x xs n isb h rest = cases (x.range.start == 0) refl
   where
     later : (r : Span) → (r.start == 0) ≡ false → one r 0 ≡ 0
     later r e = grind (arith, nat_tests)
 
-    by : (c : Bool) → (x.range.start == 0) ≡ c → (c || begins_at xs 0) ≡ true
-    by true e = refl
-    by false e = rest (omega (arith, h, later x.range e))
+    cases : (c : Bool) → (x.range.start == 0) ≡ c → (c || begins_at xs 0) ≡ true
+    cases true e = refl
+    cases false e = rest (omega (arith, h, later x.range e))
 
 begins_zero : (xs : List ShardState) → 1 ≤ open_times xs 0 → begins_at xs 0 ≡ true
 begins_zero [] h = absurd (omega arith)
@@ -114,16 +102,14 @@ begins_zero (x ∷ xs) h = begins_more x xs 0 ∙ zero_by (is_open x) x xs (open
 
 from_zero : (ss : List ℕ) → RiseFrom 0 ss → is_start ss 0 ≡ true → AreStarts ss
 from_zero [] r h = absurd cc
-from_zero (b ∷ starts) r h = by b r refl
+from_zero (b ∷ starts) r h = cases b r refl
   where
-    by : (n : ℕ) → RiseFrom 0 (b ∷ starts) → b ≡ n → AreStarts (b ∷ starts)
-    by zero r e = (e, subst (λ (m : ℕ). RiseFrom (m + 1) starts) e r.1)
-    by (suc n) r e =
+    cases : (n : ℕ) → RiseFrom 0 (b ∷ starts) → b ≡ n → AreStarts (b ∷ starts)
+    cases zero r e = (e, subst (λ (m : ℕ). RiseFrom (m + 1) starts) e r.1)
+    cases (suc n) r e =
         let g : true ≡ false = sym h ∙ none_below 1 (b ∷ starts) 0 (omega arith, r.1) (omega arith) in
         absurd cc
 
--- If the shards `xs` meet the invariant `IsTree`, the first keys of the open shards, in rising order, are the starts of
--- a partition (`AreStarts`).
 pub tree_starts : (xs : List ShardState) → IsTree xs → AreStarts (starts_among (filter is_open xs))
 tree_starts xs tree =
     from_zero (starts_among (filter is_open xs)) (tree_rises xs tree)

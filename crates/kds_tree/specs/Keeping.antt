@@ -1,25 +1,24 @@
--- The state (`ShardState`) that a kept shard (`KeptShard`) represents, and the kept shard that represents a state.
+-- The state that a kept shard represents, and the kept shard that represents a state.
 use Rattle.std.specs.Prelude.{ℕ, ◌≡◌, refl, Option, Some, None}
 use Rattle.std.proofs.Common.{ap, ◌∙◌}
 use Rattle.kds_defs.specs.Shards.{ShardState, Closing, ending, shown}
 use Rattle.kds_tree.specs.declared.kept.KeptShard.TheInside.{Inside}
 
--- How a shard was closed, made from its ending sequence number and the time of its closing. If one of the two is
--- missing, the shard is open.
-abbrev pub closing_from : Option ℕ → Option ℕ → Option Closing
+-- The closing from an ending sequence number and a time; the shard is open if either is missing.
+abbrev pub closing_from : (n c : Option ℕ) → Option Closing
 closing_from (Some n) (Some c) = Some (record { number = n; clock = c })
 closing_from (Some n) None = None
 closing_from None c = None
 
--- Either both an ending sequence number and a time of closing are given, or neither is.
-abbrev pub AreBothOrNeither : Option ℕ → Option ℕ → Type 0
+-- Both an ending sequence number and a time of closing are given, or neither is.
+abbrev pub AreBothOrNeither : (n c : Option ℕ) → Type 0
 AreBothOrNeither (Some n) (Some c) = Unit {0}
 AreBothOrNeither (Some n) None = ⊥
 AreBothOrNeither None (Some c) = ⊥
 AreBothOrNeither None None = Unit {0}
 
--- The state that the kept shard `k` represents.
-abbrev pub state_of : Inside → ShardState
+-- The state that the kept shard represents.
+abbrev pub state_of : (k : Inside) → ShardState
 state_of k = record {
   no = k.shard.no;
   range = k.shard.range;
@@ -32,12 +31,12 @@ state_of k = record {
 -- ---- The kept shard that represents a state
 
 -- The time at which a shard was closed, or `None` if it is open.
-abbrev pub moment_of : Option Closing → Option ℕ
+abbrev pub moment_of : (closing : Option Closing) → Option ℕ
 moment_of None = None
 moment_of (Some closing) = Some closing.clock
 
--- The kept shard that represents the state `x`.
-abbrev pub fields_of : ShardState → Inside
+-- The kept shard that represents the state.
+abbrev pub fields_of : (x : ShardState) → Inside
 fields_of x = record { shard = shown x; closed = moment_of x.closing }
 
 ending_back : (n c : Option ℕ) → AreBothOrNeither n c → ending (closing_from n c) ≡ n
@@ -52,8 +51,7 @@ moment_back None (Some c) h = absurd h
 moment_back (Some n) None h = absurd h
 moment_back (Some n) (Some c) h = refl
 
--- If the kept shard `k` has both an ending sequence number and a time of closing, or neither, the kept shard that
--- represents the state of `k` is `k` itself.
+-- A round trip from kept shard to state, if a closing is complete or missing.
 pub fields_back : (k : Inside) → AreBothOrNeither k.shard.end k.closed → fields_of (state_of k) ≡ k
 fields_back k h =
     ap (λ (n : Option ℕ). let f : Inside = record {

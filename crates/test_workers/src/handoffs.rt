@@ -19,8 +19,8 @@ use std::test::Fail;
 /// Makes the processor call that is due, if a call is due. A worker with one shard has at most one call due. Returns
 /// `false` if the call failed, and otherwise `true`.
 fn call_due(worker: &mut Worker<Stock, Kind>) -> bool
-    requires free { worker.old.waiting ≡ None }
-    ensures free { worker.new.waiting ≡ None }
+    requires unasked { worker.old.waiting ≡ None }
+    ensures unasked { worker.new.waiting ≡ None }
 {
     match worker.due() {
         Some(_) => worker.call().is_ok(),
@@ -38,9 +38,9 @@ fn worker_step<M: Machine, R: Wait>(
     at: Moment,
 ) -> bool
     requires hall { pass.old.hall ≡ hall.now.id }
-    requires free { worker.old.waiting ≡ None }
+    requires unasked { worker.old.waiting ≡ None }
     ensures kept { IsSamePass pass.new pass.old }
-    ensures free { result ≡ true → worker.new.waiting ≡ None }
+    ensures unasked { result ≡ true → worker.new.waiting ≡ None }
 {
     if !call_due(worker) || worker.due().is_some() || worker.idle() {
         return false;
@@ -71,9 +71,9 @@ fn hand_off<M: Machine, R: Wait>(
     at: Moment,
 ) -> Result<Option<(Left, u64)>, TurnErr>
     requires hall { pass.old.hall ≡ hall.now.id }
-    requires free { worker.old.waiting ≡ None }
+    requires unasked { worker.old.waiting ≡ None }
     ensures kept { IsSamePass pass.new pass.old }
-    ensures free { worker.new.waiting ≡ None }
+    ensures unasked { worker.new.waiting ≡ None }
 {
     match hand_over(rt, hall, pass, worker, key, at) {
         Ok(Some((left, processor))) => Ok(Some((left, records(&processor)))),

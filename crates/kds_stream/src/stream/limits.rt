@@ -16,7 +16,8 @@ impl Stream {
     /// refused. The operation is an addition of this project to the Kinesis API. The limits are those of the Kinesis
     /// Data Streams Developer Guide, Quotas and Limits.
     pub fn enforce(&mut self, on: bool) -> Answer
-        ensures answered { Decides self.old self.new result (λ log by. enforce log self.old.clock by self.old.no on) }
+        ensures answered { Decides self.old self.new result
+            (λ log actor. enforce log self.old.clock actor self.old.no on) }
         ensures fields { KeepsFields self.new self.old }
         ensures done { result ≡ Ok Reply.Done }
         ensures changed { KeepsRetention self.old self.new }

@@ -15,8 +15,8 @@ impl Stream {
     /// Returns the reason why a merge of the shards `shard` and `other` would be refused, or `None` if it would be
     /// accepted.
     fn merge_refusal(&self, shard: ShardNo, other: ShardNo) -> Option<Refusal>
-        ensures decided { RefusesAs self.now result (λ log c by s. merge_line log c by s shard other)
-            (λ log c by s. merge log c by s shard other) }
+        ensures decided { RefusesAs self.now result (λ log c actor s. merge_line log c actor s shard other)
+            (λ log c actor s. merge log c actor s shard other) }
         ensures merges { IfNone result (merge_refusal self.now.tree shard other ≡ None) }
         ensures unspent { IfNone result (self.now.next ≢ last_number) }
     {
@@ -41,7 +41,7 @@ impl Stream {
     /// greatest `u64`. If the merge is refused or memory runs out, the stream is unchanged.
     pub fn merge(&mut self, shard: ShardNo, other: ShardNo) -> Result<Answer, Memory>
         ensures answered { IfOk result
-            (λ a. Decides self.old self.new a (λ log by. merge log self.old.clock by self.old.no shard other)) }
+            (λ a. Decides self.old self.new a (λ log actor. merge log self.old.clock actor self.old.no shard other)) }
         ensures change { ChangesIfAccepted self.old self.new result }
     {
         if let Some(refusal) = self.merge_refusal(shard, other) {

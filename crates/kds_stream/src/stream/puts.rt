@@ -21,7 +21,7 @@ impl Stream {
     pub fn put(&mut self, item: NewItem) -> Result<Answer, Memory>
         requires { IsItem item }
         ensures answered { IfOk result
-            (λ a. Decides self.old self.new a (λ log by. put log self.old.clock by self.old.no item)) }
+            (λ a. Decides self.old self.new a (λ log actor. put log self.old.clock actor self.old.no item)) }
         ensures change { ChangesIfAccepted self.old self.new result }
     {
         let shard = self.tree.home(item.hash);
@@ -56,7 +56,7 @@ impl Stream {
     pub fn put_many(&mut self, items: Items<NewItem>) -> Result<Answer, Memory>
         requires { AreItems items }
         ensures answered { IfOk result
-            (λ a. Decides self.old self.new a (λ log by. put_many log self.old.clock by self.old.no items)) }
+            (λ a. Decides self.old self.new a (λ log actor. put_many log self.old.clock actor self.old.no items)) }
         ensures change { ChangesIfAccepted self.old self.new result }
     {
         let alloc = *self.logs.allocator();

@@ -29,9 +29,9 @@ impl Stream {
     pub fn keep(&mut self, hours: u32, raise: bool) -> Answer
         requires { IsRetention hours }
         ensures answered { Decides self.old self.new result
-            (λ log by. keep log self.old.clock by self.old.no hours raise) }
+            (λ log actor. keep log self.old.clock actor self.old.no hours raise) }
         ensures fields { KeepsFields self.new self.old }
-        ensures refused { OnErr result (self.new ≡ self.old) }
+        ensures same { OnErr result (self.new ≡ self.old) }
         ensures changed { OnOk result (IsKeptAt hours self.old self.new) }
     {
         if is_wrong_way(hours, self.hours, raise) {

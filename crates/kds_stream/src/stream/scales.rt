@@ -21,8 +21,8 @@ impl Stream {
     /// would be above the greatest `u64` after the last step.
     pub fn scale(&mut self, target: u32, open_limit: u64) -> Result<Answer, Memory>
         requires { IsShardCount target }
-        ensures answered { IfOk result (λ a. Decides self.old self.new a (λ log by.
-            scale_where (is_over target open_limit) log self.old.clock by self.old.name self.old.no target)) }
+        ensures answered { IfOk result (λ a. Decides self.old self.new a (λ log actor.
+            scale_where (is_over target open_limit) log self.old.clock actor self.old.name self.old.no target)) }
         ensures change { ChangesIfAccepted self.old self.new result }
     {
         if u64::from(target) > open_limit {
@@ -53,8 +53,8 @@ impl Stream {
         requires target { IsShardCount target }
         requires plan { IsPlan self.old target steps.now }
         requires made { made ≡ made_by steps.now }
-        ensures answered { IfOk result (λ reply. Decides self.old self.new (Ok reply) (λ log by.
-            scale_where false log self.old.clock by self.old.name self.old.no target)) }
+        ensures answered { IfOk result (λ reply. Decides self.old self.new (Ok reply) (λ log actor.
+            scale_where false log self.old.clock actor self.old.name self.old.no target)) }
         ensures fields { KeepsFields self.new self.old }
         ensures changed { OnOk result (KeepsRetention self.old self.new) }
         ensures kept { OnErr result (self.new ≡ self.old) }

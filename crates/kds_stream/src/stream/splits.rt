@@ -29,8 +29,8 @@ impl Stream {
     /// Returns the reason why a split of the shard at the hash key `at` would be refused, or `None` if it would be
     /// accepted. `open_limit` is the greatest number of shards that may be open in this stream.
     fn split_refusal(&self, shard: ShardNo, at: u128, open_limit: u64) -> Option<Refusal>
-        ensures decided { RefusesAs self.now result (λ log c by s. split_line log c by s shard at)
-            (λ log c by s. split_where (is_full self.now open_limit) log c by s shard at) }
+        ensures decided { RefusesAs self.now result (λ log c actor s. split_line log c actor s shard at)
+            (λ log c actor s. split_where (is_full self.now open_limit) log c actor s shard at) }
         ensures splits { IfNone result (split_refusal self.now.tree shard at ≡ None) }
         ensures unspent { IfNone result (self.now.next ≢ last_number) }
         ensures few { IfNone result (length (filter is_open self.now.tree) < OPEN_SHARDS) }
@@ -60,8 +60,8 @@ impl Stream {
     /// stream's next sequence number is the greatest `u64`. If the split is refused or memory runs out, the stream is
     /// unchanged.
     pub fn split(&mut self, shard: ShardNo, at: u128, open_limit: u64) -> Result<Answer, Memory>
-        ensures answered { IfOk result (λ a. Decides self.old self.new a (λ log by.
-            split_where (is_full self.old open_limit) log self.old.clock by self.old.no shard at)) }
+        ensures answered { IfOk result (λ a. Decides self.old self.new a (λ log actor.
+            split_where (is_full self.old open_limit) log self.old.clock actor self.old.no shard at)) }
         ensures change { ChangesIfAccepted self.old self.new result }
     {
         if let Some(refusal) = self.split_refusal(shard, at, open_limit) {

@@ -60,7 +60,7 @@ returns-clause-judged c =
     c.reach-position.ensures log st
     y (c.in-Ok.ensures.value log st.shows) v (search rules) ms (search rules) e (search rules) c.read-2.new.self.tenures
     c.position_after_numbers.result
-    (λ log line sh at none. shows_lease w log line sh at none) (search rules)
+    (λ log line sh is_at none. shows_lease w log line sh is_at none) (search rules)
     (of_book (tenure_at a.book.now.tenures a.no) c.read-2.new.self a.book.now
     (λ x. slice_set a.book.now.tenures (a.no - 1) (with_read c.position_after_numbers.result e x)) c.read-2.ensures)
     (search rules) (search rules)
@@ -81,7 +81,7 @@ read-requires-2-clause-onward c =
     let p = c.reach-position.result in
     let ms = c.in_ok-batch.batch in
     let e = c.in_ok-batch.ends in
-    let at : c.position_after_numbers.result ≡ position_after p ms = search rules in
+    let is_at : c.position_after_numbers.result ≡ position_after p ms = search rules in
     let log = c.requires.stands.0 in
     let st = c.requires.stands.1 in
     let ns = numbers_are w a.table.now a.book.now.tenures a.by a.no a.limit p a.end a.numbers.now
@@ -89,5 +89,5 @@ read-requires-2-clause-onward c =
     y (c.in-Ok.ensures.value log st.shows) v (search rules) ms (search rules) e (search rules) in
     reads_from (tenure_at a.book.now.tenures a.no) a.by log w.clock p c.position_after_numbers.result y
     (c.in-Ok.ensures.value log st.shows)
-    (subst (λ n. p ≤ n) (sym (at ∙ ap (position_after p) ns))
+    (subst (λ n. p ≤ n) (sym (is_at ∙ ap (position_after p) ns))
     (goes_onward log w.clock y.key.stream y.key.shard p a.limit))

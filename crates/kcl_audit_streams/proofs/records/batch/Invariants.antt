@@ -4,8 +4,7 @@ use Rattle.kds_defs.specs.Records.{beginning, left_among, numbers_of}
 use Rattle.kcl_audit_streams.specs.Standing.{records_in}
 use Rattle.kcl_audit_streams.proofs.records.batch.Given as goal
 
--- The sequence numbers taken so far, followed by those of the batch from the records that remain, are those of the
--- whole batch.
+-- Numbers so far, then the batch from the records still to come, are the whole batch.
 abbrev pub invariant-loop-item : goal.invariant-loop-item
 invariant-loop-item l =
     l.numbers ++ numbers_of

@@ -3,8 +3,7 @@ use Rattle.kds_defs.specs.Records.{first_at, left_among}
 use Rattle.kcl_audit_streams.specs.Standing.{records_in}
 use Rattle.kcl_audit_streams.proofs.records.first_since.Given as goal
 
--- For the records that remain, `first_at` gives the same as for all records, because none of the records so far is the
--- one that it finds.
+-- No record so far is the first one, so the records still to come give the same.
 abbrev pub invariant-loop-item : goal.invariant-loop-item
 invariant-loop-item l =
     first_at (left_among l.floor 0 (records_in (drop l.item-index l.records) l.shard)) l.moment l.otherwise

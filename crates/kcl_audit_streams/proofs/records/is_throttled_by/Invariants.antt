@@ -1,7 +1,6 @@
 use Rattle.kcl_audit_streams.proofs.RateSteps.{IsTaken}
 use Rattle.kcl_audit_streams.proofs.records.is_throttled_by.Given as goal
 
--- The count and the bytes so far are those of the shard's puts in the clock's second, among the records so far
--- (`IsTaken`).
+-- Count and bytes so far are for the shard's puts in the clock's second.
 abbrev pub invariant-loop-item : goal.invariant-loop-item
 invariant-loop-item l = IsTaken l.shard l.clock l.records l.item-index l.count l.held

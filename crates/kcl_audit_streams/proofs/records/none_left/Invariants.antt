@@ -4,8 +4,7 @@ use Rattle.kds_defs.specs.Records.{left_among}
 use Rattle.kcl_audit_streams.specs.Standing.{records_in}
 use Rattle.kcl_audit_streams.proofs.records.none_left.Given as goal
 
--- A record of the shard is left among the records that remain exactly if one is left among all records. None of the
--- records so far is left: each is trimmed, below the position, or of another shard.
+-- No record so far is left, so the records still to come decide.
 abbrev pub invariant-loop-item : goal.invariant-loop-item
 invariant-loop-item l =
     are_none (left_among l.floor l.position (records_in (drop l.item-index l.records) l.shard))

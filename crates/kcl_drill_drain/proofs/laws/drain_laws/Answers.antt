@@ -12,7 +12,7 @@ few_of : (log : Journal) (key : ShardRef) (r : Row) (n : ℕ) → row log key �
 few_of log key r n there le = let P : Option Row → Type 0 = λ o. counter_in o ≤ n in subst P there le
 
 pub returns : goal.returns
-returns c = λ h at can.
+returns c = λ h is_at can.
     let log = journal h in
     let reached = c.step.ensures.history h can.lawful in
     record {
@@ -32,5 +32,5 @@ returns c = λ h at can.
       few = c.record_counts.ensures h can.lawful;
       live = live_numbers log reached.legal;
       streams = λ more own. c.lease_turns.ensures more h own;
-      floors = λ more own le. c.lease_floors.ensures more h (max (clock h) at) own le;
+      floors = λ more own le. c.lease_floors.ensures more h (max (clock h) is_at) own le;
     }

@@ -4,7 +4,7 @@ use Rattle.kcl_drill_drain.proofs.making.make_keys.Goals as goal
 
 pub loop-key-preserved : goal.loop-key-preserved
 loop-key-preserved g c = (
-  λ h has. c.make_row.ensures.leased h (c.loop-key.invariant.0 h has),
+  λ h has. c.make_row.ensures.kept h (c.loop-key.invariant.0 h has),
   λ h can keys l.
       let i = c.loop-key.key-index in
       let key = c.key-item.result in

@@ -5,8 +5,7 @@ use Rattle.kcl_drill_drain.specs.Keys.{AreMade, listed_keys}
 use Rattle.kcl_drill_drain.specs.Leased.{KeepsLeased, Leads}
 use Rattle.kcl_drill_drain.proofs.making.make_keys.Given as goal
 
--- If the machine had answered only turns on leases since some history before the loop, this is still so
--- (`KeepsLeased`). The rows of the keys so far are made (`AreMade`).
+-- Only turns on leases were answered (`KeepsLeased`), and the keys so far have rows (`AreMade`).
 abbrev pub invariant-loop-key : goal.invariant-loop-key
 invariant-loop-key g l =
     KeepsLeased (g.M.Machine.stands_for l.fn.machine) (g.M.Machine.stands_for l.machine) l.by l.at

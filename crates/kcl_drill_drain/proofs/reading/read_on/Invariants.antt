@@ -3,8 +3,7 @@ use Rattle.kcl_drill_drain.specs.Leased.{KeepsLeased}
 use Rattle.kcl_drill_drain.specs.Standing.{IsSpot, ReadsOn, Spot}
 use Rattle.kcl_drill_drain.proofs.reading.read_on.Given as goal
 
--- If the machine had answered only turns on leases since some history before the loop, this is still so
--- (`KeepsLeased`). If the tenure was ready for a read before the loop, it still is (`ReadsOn`).
+-- Only turns on leases were answered (`KeepsLeased`), and the tenure is still ready for a read (`ReadsOn`).
 abbrev pub invariant-loop-next : goal.invariant-loop-next
 invariant-loop-next g l =
     KeepsLeased (g.M.Machine.stands_for l.fn.machine) (g.M.Machine.stands_for l.machine) l.by l.at

@@ -5,7 +5,7 @@ pub returns : goal.returns
 returns c =
     record {
       take = take_answered;
-      opening = λ log c d by owner key r there may. open_answered log c d by owner key r there may.0 may.1;
+      opening = λ log c d actor owner key r there may. open_answered log c d actor owner key r there may.0 may.1;
       read = read_answered;
       give = give_answered;
       mark = mark_answered;

@@ -12,16 +12,16 @@ use Rattle.kcl_drill_run.proofs.closing.join_all.Goals as goal
 pub loop-member-preserved : goal.loop-member-preserved
 loop-member-preserved c =
     let inv = c.loop-member.invariant in
-    let before = into_iter_items c.loop-member.member-iterator in
+    let earlier = into_iter_items c.loop-member.member-iterator in
     let rest = into_iter_items c.next.new.self in
-    let step : before ≡ c.in-Some.member ∷ rest = c.in-Some.ensures.steps.0 in
+    let step : earlier ≡ c.in-Some.member ∷ rest = c.in-Some.ensures.steps.0 in
     let joined = c.join-in-loop-member.ensures in
     let now = c.join-in-loop-member.new.pass in
     record {
       hall = joined.kept.0 ∙ inv.hall;
       by = joined.kept.1 ∙ inv.by;
       own = joined.kept.2 ∙ inv.own;
-      joined = joined_more c.loop-member.root.joined now.joined _ c.in-Some.member rest before joined.joined step
+      joined = joined_more c.loop-member.root.joined now.joined _ c.in-Some.member rest earlier joined.joined step
           inv.joined;
       seen_root = continues_all now.seen c.loop-member.root.seen c.args.participants.root.seen joined.seen.0
           inv.seen_root;
@@ -31,7 +31,7 @@ loop-member-preserved c =
           (subst (λ ms. AllByRecursion (λ m. Continues s m.pass.seen) ms) (sym step)
           (continues_all s now.seen c.in-Some.member.pass.seen more joined.seen.1, left));
       len = omega (arith, inv.len, ap length step, c.in-Some.ensures.steps.1);
-      halls = all_rest (λ m. m.pass.hall ≡ c.args.hall.now.id) c.in-Some.member rest before step inv.halls;
+      halls = all_rest (λ m. m.pass.hall ≡ c.args.hall.now.id) c.in-Some.member rest earlier step inv.halls;
     }
 
 pub returns-clause-taken : goal.returns-clause-taken

@@ -8,8 +8,7 @@ use Rattle.kds_turn.specs.Passes.{accounts_of}
 use Rattle.kcl_drill_run.specs.Running.{accounts_in}
 use Rattle.kcl_drill_run.proofs.closing.join_all.Given as goal
 
--- The accounts joined into the root's pass so far and those of the workers that remain are all accounts of the drill.
--- The root's pass has seen all turns that the passes joined so far had seen.
+-- The accounts joined so far and the remaining workers' are all; the root's pass has seen what joined passes saw.
 abbrev pub invariant-loop-member : goal.invariant-loop-member
 invariant-loop-member l =
     let p = l.fn.participants in

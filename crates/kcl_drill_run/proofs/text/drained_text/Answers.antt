@@ -17,23 +17,23 @@ returns-clause-text g c = λ number records h stands is few horizon.
     c.start-2.result c.start.ensures c.start-2.ensures
     is left in
     c.in_ok-summary.ensures.text r.turns r.read r.can
-    ∙ ap (λ (before : List ℕ). before ++ summary_text (journal r.turns) (max (clock r.turns) c.start-2.result))
+    ∙ ap (λ (old : List ℕ). old ++ summary_text (journal r.turns) (max (clock r.turns) c.start-2.result))
     c.new-text.ensures
     ∙ r.text
 
-pub returns-clause-leased : goal.returns-clause-leased
-returns-clause-leased g c = λ h stands.
+pub returns-clause-kept : goal.returns-clause-kept
+returns-clause-kept g c = λ h stands.
     let left = c.in_ok-lone_drain.ensures.begun h stands in
     later (g.M.Machine.stands_for c.summary.new.machine) 0 c.start-2.result h left.more
     (c.in_ok-summary.ensures.read (left.more ++ h) (record { more = []; stands_now = left.stands_now; are = tt }))
 
-pub returns-in_err-summary-clause-leased : goal.returns-in_err-summary-clause-leased
-returns-in_err-summary-clause-leased g c = λ h stands.
+pub returns-in_err-summary-clause-kept : goal.returns-in_err-summary-clause-kept
+returns-in_err-summary-clause-kept g c = λ h stands.
     let left = c.in_ok-lone_drain.ensures.begun h stands in
     later (g.M.Machine.stands_for c.summary.new.machine) 0 c.start-2.result h left.more
     (c.in_err-summary.ensures.read (left.more ++ h) (record { more = []; stands_now = left.stands_now; are = tt }))
 
-pub returns-in_err-lone_drain-clause-leased : goal.returns-in_err-lone_drain-clause-leased
-returns-in_err-lone_drain-clause-leased g c = λ h stands.
+pub returns-in_err-lone_drain-clause-kept : goal.returns-in_err-lone_drain-clause-kept
+returns-in_err-lone_drain-clause-kept g c = λ h stands.
     let left = c.in_err-lone_drain.ensures.begun h stands in
     (left.more, left.stands_now)

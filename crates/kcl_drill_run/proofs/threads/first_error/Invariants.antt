@@ -3,8 +3,7 @@ use Rattle.kds_turn.specs.declared.pass.TurnErr.{TurnErr}
 use Rattle.kcl_drill_run.specs.Ends.{AllEnded, SomeFailed}
 use Rattle.kcl_drill_run.proofs.threads.first_error.Given as goal
 
--- The runs of the workers gone over so far ended without an error. If the runs of the remaining workers did too, those
--- of all workers did. If the run of a remaining worker ended with an error, the run of some worker did.
+-- No run gone over so far ended with an error, so the remaining workers decide how all of them ended.
 abbrev pub invariant-loop-member : goal.invariant-loop-member
 invariant-loop-member l = record {
   ok : AllEnded (drop l.member-index l.members) → AllEnded l.members;

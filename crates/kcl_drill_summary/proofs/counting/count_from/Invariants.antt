@@ -6,8 +6,7 @@ use Rattle.kcl_drill_summary.specs.Reads.{HasRead}
 use Rattle.kcl_drill_summary.specs.Counting.{CanCount, GoesOn}
 use Rattle.kcl_drill_summary.proofs.counting.count_from.Given as goal
 
--- If the machine had only read since some history before the loop, this is still so. The counts so far and the records
--- that are left from the iterator on make up all records of the shard (`GoesOn`).
+-- The machine has still only read since each history (`HasRead`), and `GoesOn` stays true.
 abbrev pub invariant-loop-now : goal.invariant-loop-now
 invariant-loop-now g l =
     ((h : List Asked) → HasRead (g.M.Machine.stands_for l.fn.machine) l.by l.at h

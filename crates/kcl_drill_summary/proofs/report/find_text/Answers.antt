@@ -6,7 +6,7 @@ use Rattle.kcl_drill_summary.proofs.report.find_text.Goals as goal
 pub returns-clause-text : goal.returns-clause-text
 returns-clause-text g c = λ h has can.
     let log = journal h in
-    let at = max (clock h) c.args.at in
+    let is_at = max (clock h) c.args.at in
     let legal = (c.step.ensures.history h can.lawful).legal in
     let facts : Facts log = record {
       numbered = c.shard_records.ensures.shards log;
@@ -14,13 +14,13 @@ returns-clause-text g c = λ h has can.
       fits = c.shard_records.ensures.next log legal;
       sized = c.shard_records.ensures.sizes h can.lawful;
     } in
-    told_text log at can.stream c.as_slice.result.now c.text_of.result facts can.named
+    told_text log is_at can.stream c.as_slice.result.now c.text_of.result facts can.named
     (c.as_slice.ensures.value
     ∙ c.in_ok-sums.ensures.ok h can.stream _ _ (c.in_ok-answer.ensures.ok h has)
     (record {
       read = c.ask.ensures.read h has;
       rows = refl;
       named = can.named;
-      countable = countable log facts at can.stream can.whole;
+      countable = countable log facts is_at can.stream can.whole;
     }))
     c.text_of.ensures

@@ -6,8 +6,7 @@ use Rattle.kcl_drill_summary.specs.Summing.{CanTell, IsTold}
 use Rattle.kcl_drill_summary.specs.Reads.{HasRead}
 use Rattle.kcl_drill_summary.proofs.summing.sum_shards.Given as goal
 
--- If the machine had only read since some history before the loop, this is still so. The entries so far and what the
--- summary says of the remaining keys are the whole summary.
+-- The machine has still only read; the entries so far and the remaining keys make up the summary.
 abbrev pub invariant-loop-key : goal.invariant-loop-key
 invariant-loop-key g l =
     ((h : List Asked) → HasRead (g.M.Machine.stands_for l.fn.machine) l.by l.at h

@@ -3,7 +3,7 @@ use Rattle.kcl_journal.specs.Entries.{numbers_of, words}
 use Rattle.kcl_journal.proofs.WordLists.{with_front}
 use Rattle.kcl_journal.proofs.numbers.numbers.Given as goal
 
--- The numbers read so far, followed by those of the words that remain, are all numbers of the text.
+-- Numbers so far, then the numbers of the words still to come, are all numbers.
 abbrev pub invariant-loop-front : goal.invariant-loop-front
 invariant-loop-front l = numbers_of (words l.fn.text) ≡ with_front l.numbers (numbers_of (words l.rest))
 

@@ -23,7 +23,7 @@ returns-in_err-next g c =
     let a = c.args in
     let y = c.in_ok-own.own in
     let p = err_from_is_err_and c.from_residual-in_err-next.result c.from_residual-in_err-next.ensures.1 in
-    rw (p.1, p.2, c.in_err-next.ensures.refused)
+    rw (p.1, p.2, c.in_err-next.ensures.same)
     (let s = (facing (g.L.Shards.clock a.shards.now) (g.L.Shards.shows a.shards.now)) in
     write_refused s a.table.now a.book.now.tenures a.by a.tenure a.counter (write_command a.change a.tenure a.counter) y
     (write_entry a.change a.tenure)

@@ -49,7 +49,7 @@ finish-requires-clause-finishing g c =
     let count : length c.loop-k.pass.own ≡ c.args.turns =
     omega (arith, inv.count, c.loop-k-test.false, c.loop-k.auto.k-end) in
     going_stopped g.P.Processor.stands_for c.loop-k.worker c.stop.new.self c.loop-k.pass c.args.turns
-    c.stop.ensures.free.made c.stop.ensures.stands count inv.going
+    c.stop.ensures.unasked.made c.stop.ensures.stands count inv.going
 
 pub returns-clause-run : goal.returns-clause-run
 returns-clause-run g c = record {

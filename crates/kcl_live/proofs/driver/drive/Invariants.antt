@@ -4,8 +4,7 @@ use Rattle.kcl_live.specs.Records.{AreOnLeasesAt}
 use Rattle.kcl_live.specs.Steps.{IsGoing}
 use Rattle.kcl_live.proofs.driver.drive.Given as goal
 
--- In the `k` rounds so far, the worker made `k` turns, each at its moment, and took each answer. The worker wasn't
--- stopped (`IsGoing`).
+-- In `k` rounds the worker made `k` turns, each at its moment, and it is still going.
 abbrev pub invariant-loop-k : goal.invariant-loop-k
 invariant-loop-k g l = record {
   kept : (l.pass.hall ≡ l.fn.pass.hall) × (l.pass.by ≡ l.fn.pass.by) × (l.pass.joined ≡ l.fn.pass.joined);

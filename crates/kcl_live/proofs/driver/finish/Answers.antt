@@ -21,7 +21,7 @@ loop-at-init g c = record {
   kept = (refl, refl, refl);
   made = c.call_all.ensures.made;
   seen = continues_same c.args.pass.now.seen;
-  free = c.call_all.ensures.free;
+  free = c.call_all.ensures.unasked;
   none_due = c.in-Ok.ensures.none_due;
   finishing = finishing_called g.P.Processor.stands_for c.args.worker.now c.call_all.new.worker c.args.pass.now
       (3 * c.args.turns) c.call_all.ensures.made c.call_all.ensures.called c.requires.finishing;

@@ -5,8 +5,7 @@ use Rattle.kcl_live.specs.Records.{AreOnLeasesAt}
 use Rattle.kcl_live.specs.Steps.{IsFinishing}
 use Rattle.kcl_live.proofs.driver.finish.Given as goal
 
--- The stopped worker made each turn so far at its moment. It has made at least `turns` turns, and makes at most 3 *
--- `turns` in all (`IsFinishing`). No processor call is due.
+-- The stopped worker made each turn at its moment, at least `turns` and at most 3 * `turns`; no call is due.
 abbrev pub invariant-loop-at : goal.invariant-loop-at
 invariant-loop-at g l = record {
   kept : (l.pass.hall ≡ l.fn.pass.hall) × (l.pass.by ≡ l.fn.pass.by) × (l.pass.joined ≡ l.fn.pass.joined);

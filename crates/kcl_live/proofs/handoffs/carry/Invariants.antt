@@ -4,7 +4,7 @@ use Rattle.kcl_hand.specs.Standing.{turns_left_in}
 use Rattle.kcl_live.specs.Hands.{Goes}
 use Rattle.kcl_live.proofs.handoffs.carry.Given as goal
 
--- The hand-off and the pass went on (`Goes`) from what they were before the loop to what they are now.
+-- The hand-off and its pass went on from before the loop to now.
 abbrev pub invariant-loop-left : goal.invariant-loop-left
 invariant-loop-left g l = record {
   kept : (l.pass.hall ≡ l.fn.pass.hall) × (l.pass.by ≡ l.fn.pass.by) × (l.pass.joined ≡ l.fn.pass.joined);

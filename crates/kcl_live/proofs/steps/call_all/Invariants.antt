@@ -6,7 +6,7 @@ use Rattle.kcl_worker.specs.Standing.{StandsFor}
 use Rattle.kcl_live.specs.Records.{with_calls}
 use Rattle.kcl_live.proofs.steps.call_all.Given as goal
 
--- Since the start of the loop, nothing has happened to the worker but calls of processors, and no command waits.
+-- Since before the loop the worker only had processor calls, and no command waits.
 abbrev pub invariant-loop-due : goal.invariant-loop-due
 invariant-loop-due g l = record {
   made : l.worker.made ≡ l.fn.worker.made;

@@ -4,8 +4,7 @@ use Rattle.kcl_sim.specs.Standing.{Employs}
 use Rattle.kcl_sim.specs.Workers.{Employed, all_called}
 use Rattle.kcl_sim.proofs.workers.call_all.Given as goal
 
--- No command waits for its answer. After the calls so far, the worker `l.worker` stands for a record. Once all due
--- calls are made, this record and the worker's record from before the loop become the same record.
+-- No command waits, and the worker's trace with all due calls made is the same as before the loop.
 abbrev pub invariant-loop-worker : goal.invariant-loop-worker
 invariant-loop-worker l =
     (l.worker.waiting ≡ None)

@@ -3,8 +3,7 @@ use Rattle.std.specs.List.{filter}
 use Rattle.kcl_defs.specs.Plans.{is_available}
 use Rattle.kcl_take.proofs.taking.available.Given as goal
 
--- The available rows so far, followed by the available rows among those that the loop hasn't come to, are all available
--- rows.
+-- Available rows so far, then the available rows still to come, are all available rows.
 abbrev pub invariant-loop-r : goal.invariant-loop-r
 invariant-loop-r l =
     let test = is_available l.fn.me l.fn.held in

@@ -2,7 +2,7 @@ use Rattle.std.proofs.Common.{◌≡◌, ◌++◌, drop}
 use Rattle.kcl_defs.specs.Plans.{candidates, expiry, seen_at}
 use Rattle.kcl_take.proofs.taking.candidates.Given as goal
 
--- The candidates so far, followed by the candidates among the rows that the loop hasn't come to, are all candidates.
+-- Candidates so far, then the candidates still to come, are all candidates.
 abbrev pub invariant-loop-r : goal.invariant-loop-r
 invariant-loop-r l =
     let expired = expiry (seen_at l.fn.observed) l.fn.now l.fn.failover in

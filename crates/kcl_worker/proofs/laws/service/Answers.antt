@@ -6,7 +6,7 @@ use Rattle.kcl_worker.proofs.laws.service.Goals as goal
 
 pub returns : goal.returns
 returns c = record {
-  served = λ by h made past orderly told. are_served by h made past orderly told;
-  of_tenures = λ by h t T begun own. of_tenure by h t T begun own;
-  others = λ by turn h made past other told. others_turn by turn h other ∙ told;
+  served = λ actor h made past orderly is_told. are_served actor h made past orderly is_told;
+  of_tenures = λ actor h t T begun own. of_tenure actor h t T begun own;
+  others = λ actor turn h made past other is_told. others_turn actor turn h other ∙ is_told;
 }

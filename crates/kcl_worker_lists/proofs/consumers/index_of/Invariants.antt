@@ -5,8 +5,7 @@ use Rattle.kds_defs.specs.declared.reply.Reply.{Reply}
 use Rattle.kcl_worker_lists.specs.Changes.{answered_among}
 use Rattle.kcl_worker_lists.proofs.consumers.index_of.Given as goal
 
--- No consumer before the index `i` belongs to the lease `id`. So an answer to a command of this lease changes no
--- consumer before `i`.
+-- No consumer before `i` belongs to `id`, so an answer to it leaves them unchanged.
 abbrev pub invariant-loop-i : goal.invariant-loop-i
 invariant-loop-i g l =
     (answer : Result Reply Refusal) → take l.i l.consumers ++ answered_among l.fn.id answer (drop l.i l.consumers)

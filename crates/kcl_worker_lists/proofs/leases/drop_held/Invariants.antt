@@ -2,8 +2,7 @@ use Rattle.std.proofs.Common.{◌≡◌, ◌-◌, ◌++◌, drop, take, vec_len}
 use Rattle.kcl_defs.specs.Workers.{without_held}
 use Rattle.kcl_worker_lists.proofs.leases.drop_held.Given as goal
 
--- The leases before the index `i`, followed by those from `i` on without the lease `id`, are all leases of the initial
--- list without the lease `id`.
+-- Leases before `i`, then the others without `id`, are all leases without `id`.
 abbrev pub invariant-loop-i : goal.invariant-loop-i
 invariant-loop-i l =
     take l.i l.held.items ++ without_held l.fn.id (drop l.i l.held.items) ≡ without_held l.fn.id l.fn.held.items

@@ -4,10 +4,7 @@ use Rattle.kcl_worker_lists.specs.Changes.{live_among, retired_among}
 use Rattle.kcl_worker_lists.specs.Retirements.{retirement}
 use Rattle.kcl_worker_lists.proofs.retired.retire_finished.Given as goal
 
--- The consumers before the index `i`, followed by those from `i` on that haven't ended, are all consumers of the
--- initial list that haven't ended. The retired consumers so far, followed by what is kept of those from `i` on that
--- have ended, are all retired consumers at the end. The list of retired consumers has room for all consumers that are
--- left.
+-- Live consumers before `i`, then the live from `i` on, are all live; likewise the retired, with room for all.
 abbrev pub invariant-loop-i : goal.invariant-loop-i
 invariant-loop-i g l =
     (take l.i l.consumers.items ++ live_among (drop l.i l.consumers.items) ≡ live_among l.fn.consumers.items)

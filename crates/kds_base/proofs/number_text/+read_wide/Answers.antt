@@ -15,8 +15,8 @@ returns-in_err-number t c =
     let block = c.split_at.result.1.now in
     let none : digits_of 128 front ≡ None = search rules in
     let some : 0 < length front = omega (arith, c.split_at.ensures.front_len, c.if-text-le-BLOCK_DIGITS.false) in
-    let given : c.from_residual.result ≡ None = search rules in
-    given ∙ front_not_read front block some none ∙ ap (digits_of 128) (sym c.split_at.ensures.by_index.0)
+    let is_given : c.from_residual.result ≡ None = search rules in
+    is_given ∙ front_not_read front block some none ∙ ap (digits_of 128) (sym c.split_at.ensures.by_index.0)
 
 pub returns-in_err-block : goal.returns-in_err-block
 returns-in_err-block t c =
@@ -24,8 +24,8 @@ returns-in_err-block t c =
     let block = c.split_at.result.1.now in
     let none : digits_of 64 block ≡ None = search rules in
     let long : length block ≡ 19 = omega (arith, c.split_at.ensures.back_len, c.if-text-le-BLOCK_DIGITS.false) in
-    let given : c.from_residual-in_err-block.result ≡ None = search rules in
-    given ∙ block_not_read front block long none ∙ ap (digits_of 128) (sym c.split_at.ensures.by_index.0)
+    let is_given : c.from_residual-in_err-block.result ≡ None = search rules in
+    is_given ∙ block_not_read front block long none ∙ ap (digits_of 128) (sym c.split_at.ensures.by_index.0)
 
 pub returns : goal.returns
 returns t c =

@@ -4,7 +4,7 @@ use Rattle.std.specs.List.{list_all}
 use Rattle.std.specs.Str.Parse.{digits_value}
 use Rattle.kds_base.proofs.number_text.read_digits.Given as goal
 
--- The bytes that were read so far are digits, and `number` is their value and below 2^64.
+-- The bytes read so far are digits, and `number` is their value.
 abbrev pub invariant-loop-byte : goal.invariant-loop-byte
 invariant-loop-byte l = record {
   digits : list_all is_ascii_digit (take l.byte-index l.text) ≡ true;

@@ -6,15 +6,15 @@ use Rattle.kds_defs.specs.Tiled.{AreMergeable, IsSplittable, IsTiled}
 use Rattle.kds_defs.proofs.Tiles.{same_times, tiled_merge, tiled_new, tiled_split}
 use Rattle.kds_defs.proofs.shard_laws.tiled_shards.Goals as goal
 
-split : (xs : List ShardState) (sh at start : ℕ) (closing : Closing) → IsSplittable xs sh at → IsTiled xs
-    → IsTiled (split_shards sh at closing start xs)
-split xs sh at start closing h tiled =
+split : (xs : List ShardState) (sh hash start : ℕ) (closing : Closing) → IsSplittable xs sh hash → IsTiled xs
+    → IsTiled (split_shards sh hash closing start xs)
+split xs sh hash start closing h tiled =
     subst (λ (o : Option ShardState).
     IsTiled (with_closed sh closing xs
-    ++ (new_shard (length xs) (lower_part (range_of o) at) (Some sh) None start
-    ∷ new_shard (length xs + 1) (upper_part (range_of o) at) (Some sh) None start ∷ [])))
+    ++ (new_shard (length xs) (lower_part (range_of o) hash) (Some sh) None start
+    ∷ new_shard (length xs + 1) (upper_part (range_of o) hash) (Some sh) None start ∷ [])))
     (sym h.stands)
-    (tiled_split xs sh (length xs) (length xs + 1) at start closing (Some sh) None h.state h.stands h.is_open_now
+    (tiled_split xs sh (length xs) (length xs + 1) hash start closing (Some sh) None h.state h.stands h.is_open_now
     h.inside tiled)
 
 merged : (xs : List ShardState) (sh other start : ℕ) (closing : Closing) → AreMergeable xs sh other → IsTiled xs

@@ -3,8 +3,7 @@ use Rattle.kds_lines.specs.declared.sizes.TheConstants.{OUTPUT_BYTES}
 use Rattle.kds_lines.specs.LineBuffer.{Stands, FedLines, fed_count}
 use Rattle.kds_lines.proofs.feed.feed_lines.Given as goal
 
--- Whatever was fed before, a first part of `piece` was fed, and `rest` remains. The sink's fault count hasn't fallen,
--- and fewer than OUTPUT_BYTES bytes of output wait.
+-- All of `piece` but `rest` was fed; the fault count hasn't fallen, and little output waits.
 abbrev pub invariant-loop-at : goal.invariant-loop-at
 invariant-loop-at g l = record {
   feeds : (fed : List ℕ) (start : Option (List ℕ))
@@ -15,6 +14,6 @@ invariant-loop-at g l = record {
   bounded : length l.line_buffer.output < OUTPUT_BYTES;
 }
 
--- Each round of the loop feeds at least one byte of those that remain.
+-- Each round feeds at least one of the remaining bytes.
 abbrev pub decreases-loop-at : goal.decreases-loop-at
 decreases-loop-at g l = length l.rest

@@ -3,6 +3,6 @@ use Rattle.serde_json.specs.Data.{string}
 use Rattle.serde_json.specs.View.{view}
 use Rattle.kds_reply.proofs.streams.name_values.Given as goal
 
--- The JSON values so far are those of the names that the loop has passed.
+-- The JSON values so far stand for the names passed.
 abbrev pub invariant-loop-name : goal.invariant-loop-name
 invariant-loop-name l = map view l.values.items ≡ map string (take l.name-index l.names)

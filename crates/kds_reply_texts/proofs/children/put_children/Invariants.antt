@@ -6,8 +6,7 @@ use Rattle.serde_json.specs.Written.{items_outline}
 use Rattle.kds_reply_texts.specs.Children.{child_data}
 use Rattle.kds_reply_texts.proofs.children.put_children.Given as goal
 
--- The JSON tokens so far, with those of the shards still to come and the closing bracket, are the tokens from before
--- followed by those of the whole array. The bytes before the first token are unchanged.
+-- The tokens so far and from the shards to come make the array; the bytes before stay.
 abbrev pub invariant-loop-shard : goal.invariant-loop-shard
 invariant-loop-shard l = record {
   all : l.out.tokens ++ items_tokens (items_outline (items_of (map child_data (drop l.shard-index l.shards))))

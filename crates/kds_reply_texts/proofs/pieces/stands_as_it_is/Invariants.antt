@@ -3,7 +3,7 @@ use Rattle.std.specs.Bool.{OnTrue}
 use Rattle.json.specs.Written.{PlainBetween}
 use Rattle.kds_reply_texts.proofs.pieces.stands_as_it_is.Given as goal
 
--- If `plain` is true, none of the bytes so far needs escaping. If `ascii` is true, each of them is below 128.
+-- Of the bytes so far, none needs escaping if `plain`, and all are ASCII if `ascii`.
 abbrev pub invariant-loop-byte : goal.invariant-loop-byte
 invariant-loop-byte l = record {
   plain : OnTrue l.plain (PlainBetween l.bytes 0 l.byte-index);

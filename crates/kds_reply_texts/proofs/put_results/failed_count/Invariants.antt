@@ -3,8 +3,7 @@ use Rattle.std.specs.Prelude.{count_by}
 use Rattle.kds_reply_texts.specs.Bodies.{has_failed}
 use Rattle.kds_reply_texts.proofs.put_results.failed_count.Given as goal
 
--- The count is the number of outcomes so far whose records weren't stored. So it is at most the number of outcomes so
--- far.
+-- The count is the number of failed outcomes so far.
 abbrev pub invariant-loop-outcome : goal.invariant-loop-outcome
 invariant-loop-outcome l = record {
   counted : l.count ≡ count_by has_failed (take l.outcome-index l.outcomes);

@@ -4,14 +4,14 @@ use Rattle.kds_reply_texts.proofs.Joined.{more}
 use Rattle.kds_reply_texts.proofs.PlaceTexts.{place_pieces}
 use Rattle.kds_reply_texts.proofs.put_results.put_place.Goals as goal
 
-pub returns : goal.returns
-returns c =
+pub returns-clause-ok : goal.returns-clause-ok
+returns-clause-ok c =
     let p = c.args.place.now in
     let id : c.as_str.result.now ≡ shard_id p.shard = search rules in
     let t = c.args.out.now.items in
-    let two = more t c.push_piece.new.out.items c.put_seq.new.out.items _ _ c.in_ok-push_piece.ensures
-    c.in_ok-put_seq.ensures in
-    let three = more t c.put_seq.new.out.items c.push_piece-2.new.out.items _ _ two c.in_ok-push_piece-2.ensures in
-    let four = more t c.push_piece-2.new.out.items c.put_str.new.out.items _ _ three c.in_ok-put_str.ensures in
-    let five = more t c.put_str.new.out.items c.push_piece-3.new.out.items _ _ four c.in_ok-push_piece-3.ensures in
+    let two = more t c.push_piece.new.out.items c.put_seq.new.out.items _ _ c.in_ok-push_piece.ensures.ok
+    c.in_ok-put_seq.ensures.ok in
+    let three = more t c.put_seq.new.out.items c.push_piece-2.new.out.items _ _ two c.in_ok-push_piece-2.ensures.ok in
+    let four = more t c.push_piece-2.new.out.items c.put_str.new.out.items _ _ three c.in_ok-put_str.ensures.ok in
+    let five = more t c.put_str.new.out.items c.push_piece-3.new.out.items _ _ four c.in_ok-push_piece-3.ensures.ok in
     five ∙ ap (λ (text : List ℕ). t ++ text) (place_pieces p c.as_str.result.now id)

@@ -1,10 +1,24 @@
-use Rattle.std.proofs.Common.{◌≡◌, ◌++◌, List, ℕ, length, take, ap, sym, ◌∙◌, arith, rules}
+use Rattle.std.proofs.Common.{◌≡◌, ◌≤◌, ◌++◌, List, ℕ, length, take, ap, sym, ◌∙◌, arith, rules}
 use Rattle.std.specs.Str.Lossy.{utf8_lossy}
 use Rattle.json.specs.Print.{escape}
 use Rattle.serde_json.specs.Written.{comma_if}
+use Rattle.kds_reply_texts.proofs.Fronts.{front_under, front_within}
 use Rattle.kds_reply_texts.proofs.Joined.{more}
 use Rattle.kds_reply_texts.proofs.RoomTexts.{over_vec, record_over}
 use Rattle.kds_reply_texts.proofs.records.add_record.Goals as goal
+
+pub returns-clause-front : goal.returns-clause-front
+returns-clause-front c =
+    let s = c.as_mut_slice-buffer.result.now in
+    let is_before : take c.args.at s ≡ take c.args.at c.args.out.now.items =
+    ap (λ (x : List ℕ). take c.args.at x) c.as_mut_slice-buffer.ensures.value ∙ c.ensure_length.ensures.front in
+    let fits : c.args.at ≤ length s =
+    omega (arith, c.as_mut_slice-buffer.ensures.len, c.in_ok-ensure_length.ensures.room) in
+    let written = more (take c.args.at s) _ _ _ _ c.write_comma-at.ensures.text c.write_record.ensures.text in
+    front_within c.args.at c.ensure_length.new.out.len c.write_record.new.buffer _
+    (omega (arith, c.in_ok-ensure_length.ensures.room))
+    (omega (arith, c.write_record.ensures.len, c.write_comma-at.ensures.len))
+    ∙ front_under c.args.at c.write_record.result s c.write_record.new.buffer _ fits written ∙ is_before
 
 pub returns-clause-text : goal.returns-clause-text
 returns-clause-text c =
@@ -15,7 +29,7 @@ returns-clause-text c =
     let key : c.as_slice-key.result.now ≡ escape (utf8_lossy r.key) =
     sym c.if-not-stands_as_it_is.ensures ∙ ap (λ (k : List ℕ). escape (utf8_lossy k)) name in
     let front : take c.args.at c.as_mut_slice-buffer.result.now ≡ t =
-    ap (λ (s : List ℕ). take c.args.at s) c.as_mut_slice-buffer.ensures.value ∙ c.in_ok-ensure_length.ensures.front in
+    ap (λ (s : List ℕ). take c.args.at s) c.as_mut_slice-buffer.ensures.value ∙ c.ensure_length.ensures.front in
     let same : length c.write_record.new.buffer ≡ c.ensure_length.new.out.len =
     omega (arith, c.write_record.ensures.len, c.write_comma-at.ensures.len, c.as_mut_slice-buffer.ensures.len) in
     let parted = c.write_comma-at.ensures.text ∙ ap (λ (s : List ℕ). s ++ comma_if c.args.later) front in

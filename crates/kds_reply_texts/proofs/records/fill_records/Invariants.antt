@@ -6,14 +6,14 @@ use Rattle.kds_reply_texts.specs.Records.{record_data}
 use Rattle.kds_reply_texts.specs.Room.{front_text}
 use Rattle.kds_reply_texts.proofs.records.fill_records.Given as goal
 
--- The text up to the index `at`, with that of the records still to come and the closing bracket, is the text from
--- before followed by the whole array. The first `size` bytes of `front`, at most 60, are the text before the payload of
--- a record of the second `second`.
+-- The text up to `at` and the records to come make the array; bytes before stay; `front` begins a record of `second`.
 abbrev pub invariant-loop-stored : goal.invariant-loop-stored
 invariant-loop-stored l = record {
   within : l.at ≤ vec_len l.out;
   short : l.size ≤ 60;
   front : take l.size l.front ≡ front_text l.second;
+  before : take (vec_len l.fn.out) l.out.items ≡ l.fn.out.items;
+  longer : vec_len l.fn.out ≤ l.at;
   text : take l.at l.out.items ++ items_text l.later (items_of (map record_data (drop l.stored-index l.batch)))
       ≡ l.fn.out.items ++ compact_text (list_data record_data l.batch);
 }

@@ -5,4 +5,4 @@ use Rattle.kds_reply_texts.proofs.writing.written.Goals as goal
 
 pub returns : goal.returns
 returns c = λ d is. c.unshared.ensures ∙ c.into_inner.ensures.items
-    ∙ ap (λ before. before ++ print c.args.out.tokens) c.requires ∙ ap print is ∙ print-outline d
+    ∙ ap (λ is_before. is_before ++ print c.args.out.tokens) c.requires ∙ ap print is ∙ print-outline d

@@ -7,13 +7,13 @@ use Rattle.kds_server.proofs.exchange.read_piece.Goals as goal
 
 pub returns-in-Ok-feed : goal.returns-in-Ok-feed
 returns-in-Ok-feed g c = record {
-  ok = λ held all start given told r.
+  ok = λ held all start is_given is_told r.
       let piece = c.split_at.result.0.now in
       let bytes = rw (← c.split_at.ensures.front) at c.in-Ok.ensures.bytes.0 in record {
         fed = r.fed ++ piece;
         sent = r.sent;
         taken = Consumes-trans all _ _ r.fed piece r.taken bytes;
-        stands = c.in-Ok-feed.ensures.stands (traffic r.fed given told r.sent) r.stands;
+        stands = c.in-Ok-feed.ensures.stands (traffic r.fed is_given is_told r.sent) r.stands;
         written = r.written;
       };
   ends = search rules;

@@ -28,9 +28,9 @@ loop-i-preserved c =
           ∙ ap (slice_set _ i) c.advance.ensures.value ∙ set_rest f vs i _ here;
       keys = keys_set c.loop-i.streams.entries i new ∙ c.loop-i.invariant.keys;
       shows = λ log shown.
-          let before = c.loop-i.invariant.shows log shown in
+          let earlier = c.loop-i.invariant.shows log shown in
           subst (AreShown log) (sym (values_set c.loop-i.streams.entries i new))
-          (all_set (λ v. Shows v log) i (values c.loop-i.streams) new before
+          (all_set (λ v. Shows v log) i (values c.loop-i.streams) new earlier
           (c.advance.ensures.shows log
-          (all_get (λ v. Shows v log) i (values c.loop-i.streams) _ before c.index_mut.ensures.value)));
+          (all_get (λ v. Shows v log) i (values c.loop-i.streams) _ earlier c.index_mut.ensures.value)));
     }

@@ -5,8 +5,7 @@ use Rattle.kds_service.specs.Clocks.{advanced}
 use Rattle.kds_service.specs.Shown.{AreShown}
 use Rattle.kds_service.proofs.clocks.advance_all.Given as goal
 
--- The streams before the index `i` are at the new clock, and the other streams are unchanged. The keys are unchanged,
--- and the streams show each journal that they showed before the loop.
+-- The streams before `i` are at the new clock, the others unchanged; all show the same journals as before.
 abbrev pub invariant-loop-i : goal.invariant-loop-i
 invariant-loop-i l = record {
   value : values l.streams ≡ map (advanced l.clock) (take l.i (values l.initial.streams))

@@ -3,8 +3,7 @@ use Rattle.indexmap.specs.IndexMap.{keys, values}
 use Rattle.kds_service.specs.Clocks.{retreated}
 use Rattle.kds_service.proofs.clocks.retreat_all.Given as goal
 
--- The streams before the index `i` are back at the clock and the cut that they remembered, and the other streams are
--- unchanged. The keys are unchanged.
+-- The streams before `i` are back at what they remembered, and the others are unchanged.
 abbrev pub invariant-loop-i : goal.invariant-loop-i
 invariant-loop-i l = record {
   value : values l.streams ≡ map retreated (take l.i (values l.initial.streams)) ++ drop l.i (values l.initial.streams);

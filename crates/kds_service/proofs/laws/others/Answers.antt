@@ -3,17 +3,17 @@ use Rattle.kds_service.proofs.laws.others.Goals as goal
 
 pub returns-clause-changed : goal.returns-clause-changed
 returns-clause-changed c =
-    λ clock b n i vs x v log lines all here numbered at of shown.
-    shows_after clock b n i vs x v log lines c.other_lines.ensures all here numbered at of shown
+    λ clock b n i vs x v log lines all here numbered is_at is_of shown.
+    shows_after clock b n i vs x v log lines c.other_lines.ensures all here numbered is_at is_of shown
 
 pub returns-clause-added : goal.returns-clause-added
 returns-clause-added c =
-    λ clock b n by count name vs v log all numbered at shown.
-    shows_added clock b n by count name vs v log c.other_lines.ensures all numbered at shown
+    λ clock b n actor count name vs v log all numbered is_at shown.
+    shows_added clock b n actor count name vs v log c.other_lines.ensures all numbered is_at shown
 
 pub returns-clause-removed : goal.returns-clause-removed
 returns-clause-removed c =
-    λ clock b n by i vs x log all here. shows_removed clock b n by i vs x log c.other_lines.ensures all here
+    λ clock b n actor i vs x log all here. shows_removed clock b n actor i vs x log c.other_lines.ensures all here
 
 pub returns-clause-empty : goal.returns-clause-empty
 returns-clause-empty c = shows_none

@@ -1,4 +1,4 @@
--- For a command with a token, the index is that of the stream whose number is in the token.
+-- A command with a token has the index of the stream in its token.
 use Rattle.std.proofs.Common.{sym, ◌∙◌}
 use Rattle.indexmap.specs.IndexMap.{values}
 use Rattle.kds_service.proofs.Lookups.{token_index}

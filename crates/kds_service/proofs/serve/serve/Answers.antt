@@ -1,4 +1,4 @@
--- For each kind of command, the contract of the function that serves this kind gives what `serve` promises (`Leads`).
+-- The contract of the function that serves each kind of command gives what `serve` promises.
 use Rattle.std.proofs.Common.{refl}
 use Rattle.std.specs.Prelude.{Ok}
 use Rattle.indexmap.specs.IndexMap.{values}
@@ -8,18 +8,18 @@ use Rattle.kds_service.proofs.Lookups.{rest_of}
 use Rattle.kds_service.proofs.serve.serve.Goals as goal
 
 pub returns-in-Delete-clause-leads : goal.returns-in-Delete-clause-leads
-returns-in-Delete-clause-leads c before =
+returns-in-Delete-clause-leads c is_before =
     let a = c.args in
     let w = c.in-Delete in
-    serve_leads {E = Unit {0}} (Ok c.delete.result) a.clock before a.made_count.now (values a.streams.now)
+    serve_leads {E = Unit {0}} (Ok c.delete.result) a.clock is_before a.made_count.now (values a.streams.now)
     (values c.delete.new.streams) a.what
     (command.Delete w.name) c.delete.ensures.leads w.is
 
 pub returns-in-Streams-clause-leads : goal.returns-in-Streams-clause-leads
-returns-in-Streams-clause-leads c before =
+returns-in-Streams-clause-leads c is_before =
     let a = c.args in
     let w = c.in-Streams in
-    serve_leads c.streams.result a.clock before a.made_count.now (values a.streams.now) (values a.streams.now)
+    serve_leads c.streams.result a.clock is_before a.made_count.now (values a.streams.now) (values a.streams.now)
     a.what (command.Streams w.after w.limit) c.streams.ensures w.is
 
 pub serve_one-requires-clause-own : goal.serve_one-requires-clause-own
@@ -29,7 +29,7 @@ serve_one-requires-clause-own c =
     (λ after limit is. w.not-Streams after limit is)
 
 pub returns-in_default-clause-leads : goal.returns-in_default-clause-leads
-returns-in_default-clause-leads c before =
+returns-in_default-clause-leads c is_before =
     let a = c.args in
-    serve_leads c.serve_one.result a.clock before a.made_count.now (values a.streams.now)
+    serve_leads c.serve_one.result a.clock is_before a.made_count.now (values a.streams.now)
     (values c.serve_one.new.streams) a.what a.what c.serve_one.ensures.leads refl

@@ -1,8 +1,7 @@
--- The stream at the index that is found decides the command. If the command's token is too old, or no index is found,
--- the machine refuses the command.
+-- The stream at the index decides the command; an old token or a missing stream is refused as by the machine.
 use Rattle.std.proofs.Common.{◌≡◌, sym, ap, ◌∙◌}
 use Rattle.std.specs.Prelude.{◌-◌}
-use Rattle.kds_base.proofs.Facts.{same_some}
+use Rattle.std.proofs.lemmas.Option.{same_Some}
 use Rattle.kds_defs.specs.declared.limits.TheConstants.{OPEN_SHARDS}
 use Rattle.kds_defs.specs.declared.reply.Refusal.TheVariants as refusal
 use Rattle.indexmap.specs.IndexMap.{values}
@@ -18,14 +17,15 @@ pub returns-in-Some-clause-leads : goal.returns-in-Some-clause-leads
 returns-in-Some-clause-leads c b n =
     let a = c.args in
     refused_leads (service a.clock b n (values a.streams.now)) a.what c.in-Some.refusal
-    (λ log by all. expired_so log a.clock by a.what c.in-Some.refusal (sym c.token_refusal.ensures ∙ c.in-Some.is))
+    (λ log actor all. expired_so log a.clock actor a.what c.in-Some.refusal (sym c.token_refusal.ensures
+    ∙ c.in-Some.is))
 
 pub returns-in-None-clause-leads : goal.returns-in-None-clause-leads
 returns-in-None-clause-leads c b n =
     let a = c.args in
     let w = service a.clock b n (values a.streams.now) in
     refused_leads w a.what refusal.NoStream
-    (λ log by all. gone_so w log by a.what all c.requires.own (sym c.token_refusal.ensures ∙ c.in_default.is)
+    (λ log actor all. gone_so w log actor a.what all c.requires.own (sym c.token_refusal.ensures ∙ c.in_default.is)
     (sym c.in-None.ensures.value))
 
 pub serve-requires-clause-token : goal.serve-requires-clause-token
@@ -39,7 +39,7 @@ returns-in-Some-index_for-clause-leads c =
     let a = c.args in
     let vs = values a.streams.now in
     let x = c.index_mut.result.now in
-    let same = same_some c.index.result.now x (sym c.index.ensures ∙ c.index_mut.ensures.value) in
+    let same = same_Some c.index.result.now x (sym c.index.ensures ∙ c.index_mut.ensures.value) in
     stream_leads a.clock c.in-Some-index_for.i vs _ x c.serve.new.self a.what c.open_limit_for-limit.result
     c.serve.result c.others.ensures.changed c.requires.named.at
     c.index_mut.ensures.value (sym c.in-Some-index_for.ensures.value)

@@ -1,4 +1,4 @@
--- The loop subtracts the open shards of all streams except the given one from the number of shards that may be open.
+-- The limit takes off the open shards of all streams but the given one.
 use Rattle.std.proofs.Common.{ap, arith}
 use Rattle.indexmap.specs.IndexMap.{values}
 use Rattle.kds_service.proofs.Lists.{drop_get}

@@ -12,10 +12,10 @@ append_reserved-requires-clause-reserved c =
     let can = subst (CanTakeAll c.loop-next.logs) c.in-Some.ensures.items c.loop-next.invariant.can in
     let below : c.shard.inside.0 < length c.loop-next.logs =
     omega (arith, can.each.0.within, as_many_logs c.loop-next.logs, c.shard.view_is) in
-    let at : c.shard.inside.0 ≡ c.in-Some.next.shard = c.shard.view_is in
+    let is_at : c.shard.inside.0 ≡ c.in-Some.next.shard = c.shard.view_is in
     omega (
       arith,
-      reserved_left c.loop-next.logs c.shard.inside.0 c.in-Some.next c.pop_front.new.self.items at can,
+      reserved_left c.loop-next.logs c.shard.inside.0 c.in-Some.next c.pop_front.new.self.items is_at can,
       reserved_is c.loop-next.logs c.shard.inside.0 c.index-logs-shard.result below,
     )
 

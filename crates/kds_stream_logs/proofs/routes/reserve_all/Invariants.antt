@@ -4,7 +4,7 @@ use Rattle.kds_log.specs.Log.{log_of}
 use Rattle.kds_stream_logs.specs.Routes.{is_place_of, reserved_at}
 use Rattle.kds_stream_logs.proofs.routes.reserve_all.Given as goal
 
--- The logs have the same records as before the loop, and memory is reserved for the places that the loop has passed.
+-- The logs keep their records, and memory is reserved for the places passed.
 abbrev pub invariant-loop-place : goal.invariant-loop-place
 invariant-loop-place l =
     record {

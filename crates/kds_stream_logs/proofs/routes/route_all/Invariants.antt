@@ -6,9 +6,8 @@ use Rattle.kds_stream_logs.specs.Routes.{AreOfRecords, GoesOn}
 use Rattle.kds_stream_logs.specs.Saved.{restored}
 use Rattle.kds_stream_logs.proofs.routes.route_all.Given as goal
 
--- The routes so far have the records of the items so far (`AreOfRecords`). With what the items that are left add, they
--- are the routes of all items (`GoesOn`). Each shard has a window, and no window counts a put after the clock. If the
--- saved windows are put back, the windows are those from before the loop.
+-- The routes have the items so far, and with the items left they become the routes of all items;
+-- each shard has a window that counts no later put, and putting back the saved ones restores the windows.
 abbrev pub invariant-loop-item : goal.invariant-loop-item
 invariant-loop-item l =
     record {
@@ -20,6 +19,6 @@ invariant-loop-item l =
       saved : restored l.routes.saved.items l.windows ≡ l.initial.windows;
     }
 
--- Each round of the loop routes one of the items that are left.
+-- Each round routes one of the items that are left.
 abbrev pub decreases-loop-item : goal.decreases-loop-item
 decreases-loop-item l = length l.items.items

@@ -5,8 +5,7 @@ use Rattle.kds_stream_logs.specs.Steps.{AreMore}
 use Rattle.kds_stream_logs.specs.Logs.{empty_log}
 use Rattle.kds_stream_logs.proofs.steps.add_shards.Given as goal
 
--- Each round of the loop has added one empty log and one window in which no put was counted. Memory is left for the
--- logs and windows still to be added.
+-- Each round has added one empty log and one unused window, and memory is left for the rest.
 abbrev pub invariant-loop-i : goal.invariant-loop-i
 invariant-loop-i l =
     record {

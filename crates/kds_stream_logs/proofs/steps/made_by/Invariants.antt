@@ -2,8 +2,7 @@ use Rattle.std.proofs.Common.{◌≡◌, ◌≤◌, ◌+◌, ◌*◌, drop}
 use Rattle.kds_defs.specs.ScaleCommands.{made_by}
 use Rattle.kds_stream_logs.proofs.steps.made_by.Given as goal
 
--- The count so far, with the shards that the steps still to come make, is the number of shards that all steps make. The
--- count is at most two for each step that the loop has passed.
+-- The shards counted so far and from the steps left are all; at most two for each step passed.
 abbrev pub invariant-loop-step : goal.invariant-loop-step
 invariant-loop-step l =
     record {

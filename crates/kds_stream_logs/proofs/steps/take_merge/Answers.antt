@@ -1,6 +1,7 @@
 use Rattle.kds_scale.proofs.Partitions.{IsScalable, joins}
-use Rattle.kds_stream_logs.proofs.ScaleSteps.{join_starts, join_value, ok_value}
+use Rattle.kds_stream_logs.proofs.ScaleSteps.{join_starts, join_value}
 use Rattle.kds_stream_logs.proofs.steps.take_merge.Goals as goal
+use Rattle.kds_base.proofs.Facts.{ok_value}
 
 pub returns-clause-value : goal.returns-clause-value
 returns-clause-value c =

@@ -1,6 +1,7 @@
 use Rattle.std.proofs.Common.{◌<◌, ◌^◌, arith}
+use Rattle.kds_base.proofs.Facts.{ok_value}
 use Rattle.kds_scale.proofs.Partitions.{IsScalable, cuts}
-use Rattle.kds_stream_logs.proofs.ScaleSteps.{cut_starts, cut_value, ok_value}
+use Rattle.kds_stream_logs.proofs.ScaleSteps.{cut_starts, cut_value}
 use Rattle.kds_stream_logs.proofs.steps.take_split.Goals as goal
 
 pub returns-clause-value : goal.returns-clause-value

@@ -5,9 +5,7 @@ use Rattle.kds_defs.specs.Scaling.{LeadTo}
 use Rattle.kds_stream_logs.specs.Steps.{entries_in, scaled, starts_in}
 use Rattle.kds_stream_logs.proofs.steps.take_steps.Given as goal
 
--- The steps that are left lead from the present shards to the shards and entries to which all steps lead, and each of
--- them is possible. Each step so far drew one sequence number. Memory is left for the shards and entries of the steps
--- that are left.
+-- The steps left lead where all steps lead, with memory for them; each step passed drew one number.
 abbrev pub invariant-loop-step : goal.invariant-loop-step
 invariant-loop-step l =
     record {

@@ -3,13 +3,12 @@ use Rattle.kds_defs.specs.Streams.{floor_of}
 use Rattle.kds_tree.specs.Front.{AreLeft}
 use Rattle.kds_tree.proofs.front.skip_until.Given as goal
 
--- If the first `start` shards were a front with the numbers in `left` before the call, the first `count` shards are a
--- front with the numbers in `left` now (`AreLeft`).
+-- If the first `start` shards were a front, the first `count` shards are one now.
 abbrev pub invariant-loop-count : goal.invariant-loop-count
 invariant-loop-count l =
     AreLeft (floor_of l.cut) 0 l.start l.initial.left.items l.shards
     → AreLeft (floor_of l.cut) 0 l.count l.left.items l.shards
 
--- The number of shards from the index `count` on, which falls with each pass of the loop.
+-- The number of shards from the index `count` on.
 abbrev pub decreases-loop-count : goal.decreases-loop-count
 decreases-loop-count l = length l.shards - l.count

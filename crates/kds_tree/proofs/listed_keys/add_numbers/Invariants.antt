@@ -5,8 +5,7 @@ use Rattle.kds_defs.specs.Streams.{floor_of}
 use Rattle.kds_tree.specs.Front.{picked}
 use Rattle.kds_tree.proofs.listed_keys.add_numbers.Given as goal
 
--- The keys so far, followed by the keys of the unexpired shards with the numbers from the loop's index on, are the
--- final keys. These are the keys before the call and those of all unexpired shards with the given numbers.
+-- The keys so far, followed by the keys of the remaining unexpired shards, are the final keys.
 abbrev pub invariant-loop-no : goal.invariant-loop-no
 invariant-loop-no l =
     l.keys ++ refs_of l.stream (listed_among (floor_of l.cut) (picked (drop l.no-index l.numbers) l.shards))

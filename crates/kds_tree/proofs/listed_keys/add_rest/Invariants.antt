@@ -4,8 +4,7 @@ use Rattle.kds_defs.specs.Shards.{listed_among}
 use Rattle.kds_defs.specs.Streams.{floor_of}
 use Rattle.kds_tree.proofs.listed_keys.add_rest.Given as goal
 
--- The keys so far, followed by the keys of the unexpired shards from the loop's index on, are the final keys. These are
--- the keys before the call and those of all unexpired shards of `rest`.
+-- The keys so far, followed by the keys of the remaining unexpired shards, are the final keys.
 abbrev pub invariant-loop-kept : goal.invariant-loop-kept
 invariant-loop-kept l = l.keys ++ refs_of l.stream (listed_among (floor_of l.cut) (drop l.kept-index l.rest))
     ≡ l.initial.keys ++ refs_of l.stream (listed_among (floor_of l.cut) l.rest)

@@ -2,8 +2,7 @@ use Rattle.std.proofs.Common.{◌≡◌, ◌≤◌, ◌++◌, length, drop}
 use Rattle.kds_tree.specs.Front.{listing, picked}
 use Rattle.kds_tree.proofs.tree.list_numbers.Given as goal
 
--- The shards that are listed so far, followed by the unexpired shards with the numbers from the loop's index on, are
--- all shards to be listed. At most `limit` shards are listed so far.
+-- The page so far, followed by the remaining unexpired shards, is the whole listing, within `limit`.
 abbrev pub invariant-loop-no : goal.invariant-loop-no
 invariant-loop-no l = record {
   all : l.listed ++ listing l.cut (picked (drop l.no-index l.numbers) l.shards) ≡ l.initial.listed

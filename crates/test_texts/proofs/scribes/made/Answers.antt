@@ -6,8 +6,8 @@ use Rattle.kds_defs.specs.Requests.{request_turn}
 use Rattle.kds_defs.proofs.Decisions.{passed_if}
 use Rattle.test_texts.proofs.scribes.made.Goals as goal
 
-first_made : (at : ℕ) (name : List ℕ) → answer [] (request_turn at (command.Create name 1)) ≡ Ok reply.Done
-first_made at name = ap answer_of (passed_if _ _ _ refl ∙ passed_if _ _ _ refl ∙ passed_if _ _ _ refl)
+first_made : (moment : ℕ) (name : List ℕ) → answer [] (request_turn moment (command.Create name 1)) ≡ Ok reply.Done
+first_made moment name = ap answer_of (passed_if _ _ _ refl ∙ passed_if _ _ _ refl ∙ passed_if _ _ _ refl)
 
 pub note-requires-clause-answered : goal.note-requires-clause-answered
 note-requires-clause-answered c =

@@ -4,8 +4,6 @@ use Rattle.kds_defs.specs.Records.{Logged}
 use Rattle.kds_log.specs.Log.{LogValue}
 use Rattle.test_units.proofs.logs.two_records.Goals as goal
 
--- If a log without records gets the record `r`, which arrived at or before `moment`, all of its records arrived at or
--- before `moment`.
 of_one : (new old : List Logged) (r : Logged) (moment : ℕ) → new ≡ old ++ r ∷ [] → old ≡ [] → r.arrival ≤ moment
     → AllByRecursion (λ (x : Logged). x.arrival ≤ moment) new
 of_one new old r moment is none early =

@@ -1,4 +1,4 @@
--- A new list of records has no record. This list is ghost code, so it has no bytes at run time.
+-- A new list of records is empty; as ghost code it has no bytes at run time.
 use Rattle.std.proofs.Common.{[], ◌∷◌, refl}
 use Rattle.std.proofs.raw_atomic.Walks.{proved}
 use mir.Val.{vstruct, vnil}

@@ -12,8 +12,8 @@ returns c =
     let me = c.self.inside in
     let rs = me.items.items in
     let later : me.second ≤ a.clock / SECOND = search rules in
-    let by : c.is_throttled_by-2.result
+    let is_by : c.is_throttled_by-2.result
     ≡ is_throttled (puts_in (take (length rs - me.start) (drop me.start rs)) a.shard) a.clock a.bytes =
     search rules in
-    by ∙ throttled_latest me.second me.start a.clock a.shard a.bytes rs c.self.invariant.latest later
+    is_by ∙ throttled_latest me.second me.start a.clock a.shard a.bytes rs c.self.invariant.latest later
     ∙ ap (λ xs. is_throttled (puts_in xs a.shard) a.clock a.bytes) c.self.view_is

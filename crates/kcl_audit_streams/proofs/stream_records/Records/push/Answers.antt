@@ -15,12 +15,12 @@ invariant_of-self-2 c =
     let place : n ≡ item.shard = search rules in
     let there : item.shard < length shards = c.in_ok-make_room.ensures.there in
     let apart : AreApart shards c.self.inside.all.items = λ k. c.make_room.ensures.same k ∙ c.self.invariant k in
-    let before : c.index_mut.result.now ≡ records_at shards item.shard =
+    let is_before : c.index_mut.result.now ≡ records_at shards item.shard =
     c.index_mut.ensures.value
     ∙ at_index shards n c.index_mut.result.now (subst (λ k. k < length shards) (sym place) there)
     ∙ ap (records_at shards) place in
     let after : c.push.new.self ≡ records_at shards item.shard ++ item ∷ [] =
-    c.in_ok-push.ensures.ok ∙ ap (λ (rs : List Sized). rs ++ item ∷ []) before in
+    c.in_ok-push.ensures.ok ∙ ap (λ (rs : List Sized). rs ++ item ∷ []) is_before in
     let all : c.then-self-inside.result.items ≡ c.self.inside.all.items ++ item ∷ [] = search rules in
     λ sh.
     ap (λ (rs : List Sized). records_at (slice_set shards n rs) sh) after

@@ -15,8 +15,8 @@ returns-then-is_deletion-clause-ok c =
     let f = entry_verdict g.0 a.clock a.what.now in
     let vs = c.self.inside.all.items in
     let good : in_live (live_at vs a.no) f ≡ Ok tt = ap (λ us. in_live (live_at us a.no) f) c.self.view_is ∙ g.1 in
-    let at = c.index_mut in
-    let set = changed_there vs a.no f good c.no.inside.0 c.no.view_is at.result.now at.ensures.value
+    let is_at = c.index_mut in
+    let set = changed_there vs a.no f good c.no.inside.0 c.no.view_is is_at.result.now is_at.ensures.value
     (with_entry a.clock a.what.now) c.add.new.self c.in_ok-add.ensures.ok in
     set ∙ ap (changed_at (a.no - 1) (with_entry a.clock a.what.now)) c.self.view_is
 
@@ -27,8 +27,8 @@ returns-else-is_deletion-clause-ok c =
     let f = entry_verdict g.0 a.clock a.what.now in
     let vs = c.self.inside.all.items in
     let good : in_live (live_at vs a.no) f ≡ Ok tt = ap (λ us. in_live (live_at us a.no) f) c.self.view_is ∙ g.1 in
-    let at = c.index_mut in
-    let set = changed_there vs a.no f good c.no.inside.0 c.no.view_is at.result.now at.ensures.value
+    let is_at = c.index_mut in
+    let set = changed_there vs a.no f good c.no.inside.0 c.no.view_is is_at.result.now is_at.ensures.value
     (with_entry a.clock a.what.now) c.add.new.self c.in_ok-add.ensures.ok in
     set ∙ ap (changed_at (a.no - 1) (with_entry a.clock a.what.now)) c.self.view_is
 
@@ -39,8 +39,8 @@ invariant_of-self-then-is_deletion c =
     let f = entry_verdict g.0 a.clock a.what.now in
     let vs = c.self.inside.all.items in
     let good : in_live (live_at vs a.no) f ≡ Ok tt = ap (λ us. in_live (live_at us a.no) f) c.self.view_is ∙ g.1 in
-    let at = c.index_mut in
-    let set = changed_there vs a.no f good c.no.inside.0 c.no.view_is at.result.now at.ensures.value
+    let is_at = c.index_mut in
+    let set = changed_there vs a.no f good c.no.inside.0 c.no.view_is is_at.result.now is_at.ensures.value
     (with_entry a.clock a.what.now) c.add.new.self c.in_ok-add.ensures.ok in
     let some = (is_of vs a.no f good).some in
     let first : a.no ≡ 1 + (a.no - 1) = omega arith in
@@ -56,8 +56,8 @@ invariant_of-self-else-is_deletion c =
     let f = entry_verdict g.0 a.clock a.what.now in
     let vs = c.self.inside.all.items in
     let good : in_live (live_at vs a.no) f ≡ Ok tt = ap (λ us. in_live (live_at us a.no) f) c.self.view_is ∙ g.1 in
-    let at = c.index_mut in
-    let set = changed_there vs a.no f good c.no.inside.0 c.no.view_is at.result.now at.ensures.value
+    let is_at = c.index_mut in
+    let set = changed_there vs a.no f good c.no.inside.0 c.no.view_is is_at.result.now is_at.ensures.value
     (with_entry a.clock a.what.now) c.add.new.self c.in_ok-add.ensures.ok in
     c.self.invariant
     ∙ sym (later_live a.clock (a.no - 1) a.what.now vs (sym c.is_deletion.ensures ∙ c.if-is_deletion.false))

@@ -1,5 +1,4 @@
--- The copy of a history has the same turns as the history. A history here is ghost code, so it has no bytes at run
--- time.
+-- The copy of a history has the same turns; a history is ghost code, without bytes at run time.
 use Rattle.std.proofs.Common.{[], ◌∷◌, refl}
 use Rattle.std.proofs.raw_atomic.Walks.{proved}
 use mir.Syntax.{named}
@@ -32,13 +31,13 @@ copy_spec 𝓤 𝓛 𝓜 𝓡 wired =
     (Goes-none_ref 𝓛 1 (0 ∷ []) tt (plain (λ _. past.the_row)) yes, tt)
     key.name code.function (code.unfolded 𝓤 𝓛.H 𝓜 𝓡 wired) (λ κs. (shr_vals, tt))
     (λ κs. (shr_Tells (named 0) κs.0 past.the_row, tt)) (λ κs qs bounds a n are.
-    let before : Val = vptr a.0.ref_ptr.0 a.0.ref_ptr.1 in
-    let y : W.Ghost = ((κs, qs, bounds, a, (before ∷ [], tt)), n) in
+    let old : Val = vptr a.0.ref_ptr.0 a.0.ref_ptr.1 in
+    let y : W.Ghost = ((κs, qs, bounds, a, (old ∷ [], tt)), n) in
     let made : past.the_row.Denot = record { turns = a.0.now.turns } in
     qed 𝓛 ((raw (alive 𝓛 f.signature κs qs) ⊛ ‵ (owns (types_at f.signature.params κs) a y.0.4))
     ∷ raw ((c κs a).requires n) ∷ []) ∵
     keep ! (0 ∷ []) $ split ! $
-    enter ! 𝓣.C 𝓣.Λ code.function (before ∷ []) (W.post y) $ alloc_all ! (λ l. pass_all ! refl ((tt, tt), tt) $
+    enter ! 𝓣.C 𝓣.Λ code.function (old ∷ []) (W.post y) $ alloc_all ! (λ l. pass_all ! refl ((tt, tt), tt) $
     sets ! (agg ! (no_more !)) refl (tt, tt) $ returns ! (look_at ! 0 refl) $ free_all ! refl $
     suffices ! _ (ends_at 𝓛 f.ended stayed c y (vstruct vnil) made (tt, tt) (tt, tt)) $ says ! refl $
     pure_i ! (past.the_row.own_val made (vstruct vnil ∷ [])) ((λ vss. (tt, tt)), tt) ((tt, (refl, tt)), tt) $

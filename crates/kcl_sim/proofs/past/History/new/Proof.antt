@@ -1,4 +1,4 @@
--- A new history has no turn. A history here is ghost code, so it has no bytes at run time.
+-- A new history has no turn; a history is ghost code, without bytes at run time.
 use Rattle.std.proofs.Common.{[], ◌∷◌, refl}
 use Rattle.std.proofs.raw_atomic.Walks.{proved}
 use mir.Val.{vstruct, vnil}

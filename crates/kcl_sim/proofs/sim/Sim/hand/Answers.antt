@@ -41,7 +41,7 @@ returns-in_err-hand_over-clause-breaks g c = on_any_err c.from_residual.result (
     c.index_mut.ensures.value)
     (released_so c.index_mut.result.now c.release-released.new.self c.args.key _ _ c.new.result
     c.in-Some-released.ensures.some
-    c.in-Some-released.ensures.free.made c.in-Some-released.ensures.free.maker
+    c.in-Some-released.ensures.unasked.made c.in-Some-released.ensures.unasked.maker
     c.new.ensures.held c.new.ensures.made c.new.ensures.stands)
     (ap (λ (v : SimValue). record v {
       workers = slice_set v.workers c.in-Some.index c.release-released.new.self;
@@ -60,7 +60,7 @@ returns-clause-goes g c = λ ran s.
     c.index_mut.ensures.value)
     (released_so c.index_mut.result.now c.release-released.new.self c.args.key _ _ c.new.result
     c.in-Some-released.ensures.some
-    c.in-Some-released.ensures.free.made c.in-Some-released.ensures.free.maker
+    c.in-Some-released.ensures.unasked.made c.in-Some-released.ensures.unasked.maker
     c.new.ensures.held c.new.ensures.made c.new.ensures.stands)
     (ap (λ (v : SimValue). record v {
       workers = slice_set v.workers c.in-Some.index c.release-released.new.self;

@@ -23,7 +23,7 @@ returns-clause-worker g c =
       is = c.absorb.new.worker;
       stands = ap (λ ws. slice_set ws c.args.index c.absorb.new.worker) items;
       related = (
-        c.in_ok-absorb.ensures.free,
+        c.in_ok-absorb.ensures.unasked,
         λ e h. subst (λ a. Employs c.absorb.new.worker (answered c.args.at a e)) c.in_ok-answer.ensures.answered
             (c.in_ok-absorb.ensures.stands e h),
       );

@@ -6,8 +6,6 @@ use Rattle.kcl_sim.proofs.Employing.{set_again}
 use Rattle.kcl_sim.proofs.Running.{Asked, asked_at, err_so, idle_steps, on_ok_all, on_ok_so, turn_may, turn_steps}
 use Rattle.kcl_sim.proofs.sim.Sim.step_at.Goals as goal
 
--- The worker at the index has made its due calls and was then asked for a command. The result of `next_command` is this
--- command, or None if the worker is idle (`Asked`).
 asked_turn : (g : _) (c : goal.After-make_turn g)
     → Asked c.args.at c.args.index c.args.self.now c.next_command.result c.next_command.new.worker
 asked_turn g c =
@@ -16,7 +14,8 @@ asked_turn g c =
     c.call_all.new.worker c.index_mut-2.result.now c.next_command.new.worker c.next_command.result
     items (subst (λ ws. c.args.index < length ws) (sym items) c.requires.there) c.index_mut.ensures.value
     c.index_mut-2.ensures.value
-    c.in_ok-call_all.ensures.called c.next_command.ensures.is c.next_command.ensures.stands c.next_command.ensures.free
+    c.in_ok-call_all.ensures.called c.next_command.ensures.is c.next_command.ensures.stands
+    c.next_command.ensures.unasked
 
 pub returns-in-Some-clause-steps : goal.returns-in-Some-clause-steps
 returns-in-Some-clause-steps g c =
@@ -48,7 +47,7 @@ returns-in-None-clause-steps g c =
     items (subst (λ ws. c.args.index < length ws) (sym items) c.requires.there) c.index_mut.ensures.value
     c.index_mut-2.ensures.value
     c.in_ok-call_all.ensures.called c.next_command.ensures.is c.next_command.ensures.stands
-    c.next_command.ensures.free in
+    c.next_command.ensures.unasked in
     on_ok_so c.say_word.result c.say_word.ensures.ok (λ wrote.
     idle_steps g.K.Keep.wanted c.args.self.now _ c.args.at c.args.by c.args.index c.next_command.result
     c.next_command.new.worker

@@ -14,8 +14,8 @@ returns-in_default-clause-goes g c =
     c.index_of.ensures ∙ c.in_default.is)
     (wrote ∙ ap (λ w. c.args.to.now ++ if_wanted g.K.Keep.wanted (w ++ 10 ∷ [])) c.as_slice.ensures))
 
-pub step_at-requires-clause-free : goal.step_at-requires-clause-free
-step_at-requires-clause-free g c =
+pub step_at-requires-clause-unasked : goal.step_at-requires-clause-unasked
+step_at-requires-clause-unasked g c =
     free_at c.self.inside.workers.items c.in-Some.index
     (c.self.invariant.2 (ap (λ (v : SimValue). v.unfinished) c.self.view_is ∙ c.requires.going))
 

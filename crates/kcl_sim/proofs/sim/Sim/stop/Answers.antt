@@ -16,7 +16,7 @@ returns-in_ok-say_word-in-Some-clause-goes g c = λ ran s.
     (shown_there _ c.args.self.now c.args.by c.in-Some.index _ c.index_mut.result.now c.self.view_is there
     c.index_mut.ensures.value)
     (ap (λ (v : SimValue). record v { workers = slice_set v.workers c.in-Some.index c.stop.new.self }) c.self.view_is)
-    (λ e h. stop_on c.index_mut.result.now c.stop.new.self e c.stop.ensures.free.made c.stop.ensures.free.maker
+    (λ e h. stop_on c.index_mut.result.now c.stop.new.self e c.stop.ensures.unasked.made c.stop.ensures.unasked.maker
     c.stop.ensures.stands h)
     (c.in_ok-say_word-in-Some.ensures.ok
     ∙ ap (λ w. c.args.to.now ++ if_wanted g.K.Keep.wanted (w ++ 10 ∷ [])) c.as_slice.ensures)

@@ -20,7 +20,7 @@ returns-in-Some-clause-next g c = λ past st.
     let part = c.self.inside.part in
     let stands = g.P.Processor.stands_for in
     asked_leaves stands _ _ c.self.view_is c.args.now c.self.inside.syncs c.self.inside.takes c.in-Some.awaited
-    c.in-Some.what past c.requires.free
+    c.in-Some.what past c.requires.unasked
     (λ s stand same.
     subst (λ ts. IsGiven made s c.self.inside.syncs ts
     (chore_from made.settings.failover c.args.now s (round_of part c.self.inside.syncs ts))

@@ -5,7 +5,6 @@ use Rattle.kds_cli_runs.proofs.entries.JournalKeep.apply.Goals as goal
 pub note-requires-clause-lawful : goal.note-requires-clause-lawful
 note-requires-clause-lawful g c = subst IsLawful (sym c.in_ok-copy.ensures) c.requires.lawful
 
--- The turn that the scribe notes is the one that the machine applied.
 pub note-requires-clause-answered : goal.note-requires-clause-answered
 note-requires-clause-answered g c =
     let s = c.requires.stands in

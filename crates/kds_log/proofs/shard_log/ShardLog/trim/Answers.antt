@@ -7,9 +7,9 @@ use Rattle.kds_log.proofs.shard_log.ShardLog.trim.Goals as goal
 
 pub invariant_of-self : goal.invariant_of-self
 invariant_of-self c =
-    let before : LogValue = record { kept = map logged c.self.inside.records.items; last = c.self.inside.last } in (
+    let old : LogValue = record { kept = map logged c.self.inside.records.items; last = c.self.inside.last } in (
       subst (λ (kept : List Logged). IsOrderly (record { kept = kept; last = c.self.inside.last }))
-          (sym c.drop_below.ensures.left) (orderly-left before c.floor_of.result 0 c.self.invariant.0),
+          (sym c.drop_below.ensures.left) (orderly-left old c.floor_of.result 0 c.self.invariant.0),
       omega arith,
     )
 

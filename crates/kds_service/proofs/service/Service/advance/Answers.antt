@@ -22,11 +22,11 @@ returns-clause-shows c log all =
     let s = c.self.inside in
     let f = advanced c.args.clock in
     let are = c.advance_all.ensures.value in
-    let before = subst (λ (w : ServiceValue). ShowsAll w log) (sym c.self.view_is) all in
+    let earlier = subst (λ (w : ServiceValue). ShowsAll w log) (sym c.self.view_is) all in
     shows_along (the_view s) (service c.args.clock s.clock s.made_count (values c.advance_all.new.streams)) log refl
     (ap numbers_of are ∙ kept_of (λ v. v.no) f (λ v. refl) (values s.streams))
     (subst (AreAt c.args.clock) (sym are) (advanced_at c.args.clock (values s.streams)))
-    (c.advance_all.ensures.shows log before.shown) before
+    (c.advance_all.ensures.shows log earlier.shown) earlier
 
 pub returns-clause-can_retreat : goal.returns-clause-can_retreat
 returns-clause-can_retreat c =
@@ -39,7 +39,7 @@ returns-clause-shows_retreated c log all =
     let s = c.self.inside in
     let f = advanced c.args.clock in
     let are = c.advance_all.ensures.value in
-    let before = subst (λ (w : ServiceValue). ShowsAll w log) (sym c.self.view_is) all in
+    let earlier = subst (λ (w : ServiceValue). ShowsAll w log) (sym c.self.view_is) all in
     shows_along (the_view s) (service s.clock s.clock s.made_count (map retreated (values c.advance_all.new.streams)))
     log refl
     (ap (λ us. numbers_of (map retreated us)) are ∙ kept_of (λ v. v.no) retreated (λ v. refl) (map f (values s.streams))
@@ -47,4 +47,4 @@ returns-clause-shows_retreated c log all =
     (subst (λ us. AreAt s.clock (map retreated us)) (sym are)
     (retreated_at s.clock c.args.clock (values s.streams) c.self.invariant.at))
     (subst (λ us. AreShown log (map retreated us)) (sym are)
-    (retreated_shown c.args.clock (values s.streams) log before.shown)) before
+    (retreated_shown c.args.clock (values s.streams) log earlier.shown)) earlier

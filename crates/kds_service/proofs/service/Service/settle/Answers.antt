@@ -37,8 +37,8 @@ returns-clause-shows c log all =
     let s = c.self.inside in
     let i = c.in_rotation-index.result in
     let are = c.settle_stream.ensures.value in
-    let before = subst (λ (w : ServiceValue). ShowsAll w log) (sym c.self.view_is) all in
+    let earlier = subst (λ (w : ServiceValue). ShowsAll w log) (sym c.self.view_is) all in
     shows_along (the_view s) (service s.clock s.clock s.made_count (values c.settle_stream.new.streams)) log refl
     (ap numbers_of are ∙ kept_in (λ v. v.no) (λ v. refl) i (values s.streams))
     (subst (AreAt s.clock) (sym are) (settled_at s.clock i (values s.streams) c.self.invariant.at))
-    (c.settle_stream.ensures.shows log before.shown) before
+    (c.settle_stream.ensures.shows log earlier.shown) earlier

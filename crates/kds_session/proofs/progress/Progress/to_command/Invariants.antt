@@ -4,9 +4,8 @@ use Rattle.kds_session.specs.Next.{IsNearer}
 use Rattle.kds_session.specs.Steps.{read_state, IsFree, IsKept}
 use Rattle.kds_session.proofs.progress.Progress.to_command.Given as goal
 
--- No more bytes are consumed than there are, and a kept head is that of the bytes that come next. The session that the
--- reading makes is live and waits for no answer, and stands for each traffic that it stood for before the loop. Less
--- may still come than before the loop, or nothing was read (`IsNearer`).
+-- A kept head begins the unconsumed bytes; the reading's session is free and stands for the same traffic,
+-- and less may still come than before the loop, or nothing was read.
 abbrev pub invariant-loop-what : goal.invariant-loop-what
 invariant-loop-what l = record {
   room : l.self.read ≤ length l.bytes;
@@ -16,6 +15,6 @@ invariant-loop-what l = record {
   stands : CarriesOn (read_state l.bytes l.fn.self) (read_state l.bytes l.self) (λ past. past);
 }
 
--- Each round of the loop lowers the number of requests that are still allowed.
+-- Each round lowers the number of requests still allowed.
 abbrev pub decreases-loop-what : goal.decreases-loop-what
 decreases-loop-what l = l.self.left

@@ -46,7 +46,7 @@ invariant_of-self-2 c =
     tree few drawn fits logs windows more.unused many c.self.invariant
 
 pub returns-clause-answered : goal.returns-clause-answered
-returns-clause-answered c log by shown =
+returns-clause-answered c log actor shown =
     let v : StreamValue = the_view c.self.inside in
     let steps : List ScaleStep = c.args.steps.now in
     let own = c.in_ok-reserve_shards.ensures in
@@ -70,16 +70,17 @@ returns-clause-answered c log by shown =
       c.open_count-before.ensures,
       ap (λ (u : StreamValue). length (filter is_open u.tree)) c.self.view_is,
     ) in
-    let told =
+    let is_told =
     c.from_vec.ensures
     ∙ c.take_steps.ensures.entries
     ∙ ap (λ (es : List Entry). es ++ entries_in v.no steps c.first.inside.0 v.clock c.reserve_shards.new.tree.shards)
     c.in_ok-entries.ensures.items
     ∙ ap (λ n. entries_in v.no steps n v.clock c.reserve_shards.new.tree.shards) c.first.view_is
     ∙ ap (λ (xs : List ShardState). entries_in v.no steps v.next v.clock xs) own.tree in
-    let done = scale_done v log by c.args.target show false steps more.more c.take_steps.new.tree.shards _ _
+    let done = scale_done v log actor c.args.target show false steps more.more c.take_steps.new.tree.shards _ _
     (c.first-2.inside.0 + length steps) c.open_count-before.result c.in_ok-name.name c.from_vec.result
-    refl plan.are plan.unspent tree logs windows more.unused many drawn counted c.in_ok-name.ensures told
+    refl plan.are plan.unspent tree logs windows more.unused many drawn counted c.in_ok-name.ensures is_told
     c.self.invariant.as_many c.self.invariant.rated.as_many in
-    led_along (λ (u : StreamValue). scale_where false log u.clock by u.name u.no c.args.target) v c.args.self.now _ log
+    led_along (λ (u : StreamValue). scale_where false log u.clock actor u.name u.no c.args.target) v c.args.self.now _
+    log
     _ c.self.view_is done

@@ -37,13 +37,13 @@ returns-in-Some-position c log show =
     let listed = subst (λ (u : StreamValue). Some c.in-Some.state
     ≡ option_map shown (listed_at (floor_of u.cut) (slice_get u.tree c.args.shard))) (sym c.self.view_is)
     (sym c.in-Some.is ∙ c.listed.ensures.value) in
-    let at = subst (λ n. log_of c.index-log.result.now ≡ get_or v.logs n (log_of c.index-log.result.now))
+    let is_at = subst (λ n. log_of c.index-log.result.now ≡ get_or v.logs n (log_of c.index-log.result.now))
     c.shard.view_is (log_at c.self.inside.logs.items c.shard.inside.0 c.index-log.result.now c.index-log.ensures) in
     answer_along (λ (u : StreamValue). get_iterator log u.clock u.no c.args.shard c.args.from) v c.args.self.now _
     c.self.view_is
     (iterator_done v log (shown_inside log c.self.view_is show) c.args.shard c.args.from
     c.in-Some.state (log_of c.index-log.result.now) c.in-Some-position.position
-    (listed_within v c.args.shard c.in-Some.state c.self.invariant listed) at listed c.in-Some-position.ensures)
+    (listed_within v c.args.shard c.in-Some.state c.self.invariant listed) is_at listed c.in-Some-position.ensures)
 
 pub returns-in-None : goal.returns-in-None
 returns-in-None c log show =
@@ -51,10 +51,10 @@ returns-in-None c log show =
     let listed = subst (λ (u : StreamValue). Some c.in-Some.state
     ≡ option_map shown (listed_at (floor_of u.cut) (slice_get u.tree c.args.shard))) (sym c.self.view_is)
     (sym c.in-Some.is ∙ c.listed.ensures.value) in
-    let at = subst (λ n. log_of c.index-log.result.now ≡ get_or v.logs n (log_of c.index-log.result.now))
+    let is_at = subst (λ n. log_of c.index-log.result.now ≡ get_or v.logs n (log_of c.index-log.result.now))
     c.shard.view_is (log_at c.self.inside.logs.items c.shard.inside.0 c.index-log.result.now c.index-log.ensures) in
     answer_along (λ (u : StreamValue). get_iterator log u.clock u.no c.args.shard c.args.from) v c.args.self.now _
     c.self.view_is
     (iterator_bad v log (shown_inside log c.self.view_is show) c.args.shard c.args.from
     c.in-Some.state (log_of c.index-log.result.now)
-    (listed_within v c.args.shard c.in-Some.state c.self.invariant listed) at listed c.in-None.ensures)
+    (listed_within v c.args.shard c.in-Some.state c.self.invariant listed) is_at listed c.in-None.ensures)

@@ -39,7 +39,7 @@ invariant_of-self-2 c =
     unused refl c.self.invariant
 
 pub returns-clause-answered : goal.returns-clause-answered
-returns-clause-answered c log by show =
+returns-clause-answered c log actor show =
     let v : StreamValue = the_view c.self.inside in
     let free : v.next ≢ last_number =
     subst (λ (u : StreamValue). u.next ≢ last_number) (sym c.self.view_is) c.in_default.ensures.unspent in
@@ -58,7 +58,8 @@ returns-clause-answered c log by show =
     one_window _ _ v.windows _ c.push_reserved-2.ensures.items c.in_ok-reserve-2.ensures.items in
     let unused : AllByRecursion IsUnused ws =
     (record { none = c.new-2.ensures.puts; never = c.new-2.ensures.latest }, tt) in
-    merge_done c.args.self.now v _ log by c.args.shard c.args.other c.self.view_is
-    (c.in_default.ensures.decided log by show)
-    (shows_merged v log by show' c.self.invariant.as_many c.self.invariant.rated.as_many c.args.shard c.args.other _ _ _
+    merge_done c.args.self.now v _ log actor c.args.shard c.args.other c.self.view_is
+    (c.in_default.ensures.decided log actor show)
+    (shows_merged v log actor show' c.self.invariant.as_many c.self.invariant.rated.as_many c.args.shard c.args.other _
+    _ _
     _ ws (ap (λ n. n + 1) c.seq.view_is) tree logs windows unused)

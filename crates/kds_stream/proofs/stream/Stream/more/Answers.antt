@@ -1,5 +1,4 @@
--- ListShards with a token is refused if the token is too old. With any other token, the reply has the shards after the
--- token's shard.
+-- ListShards with a token: an old token is refused, another gives the shards after its own.
 use Rattle.std.proofs.Common.{◌≡◌, Some, true, false, sym, subst, ap, ◌∙◌}
 use Rattle.std.specs.Prelude.{not, IfOk}
 use Rattle.kds_defs.proofs.Decisions.{passed_if, refused_if}

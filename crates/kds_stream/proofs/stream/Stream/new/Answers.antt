@@ -7,6 +7,6 @@ invariant_of-result c =
     c.in_ok-logs.ensures c.in_ok-windows.ensures.many c.in_ok-windows.ensures.unused c.cut_at.ensures c.cut_at-2.ensures
 
 pub returns-clause-shows : goal.returns-clause-shows
-returns-clause-shows c log by fresh =
-    shows_new log by c.args.no c.args.name c.args.made_at c.args.shards fresh _ _ _ _ _ c.in_ok-tree.ensures
+returns-clause-shows c log actor fresh =
+    shows_new log actor c.args.no c.args.name c.args.made_at c.args.shards fresh _ _ _ _ _ c.in_ok-tree.ensures
     c.in_ok-logs.ensures c.in_ok-windows.ensures.unused c.cut_at.ensures

@@ -17,9 +17,10 @@ returns c log show =
     let inside = made_within v c.args.shard c.self.invariant
     (subst (λ (u : StreamValue). is_listed_at (floor_of u.cut) (slice_get u.tree c.args.shard) ≡ true)
     (sym c.self.view_is) c.requires) in
-    let at = subst (λ n. log_of c.index-log.result.now ≡ get_or v.logs n (log_of c.index-log.result.now))
+    let is_at = subst (λ n. log_of c.index-log.result.now ≡ get_or v.logs n (log_of c.index-log.result.now))
     c.shard.view_is (log_at c.self.inside.logs.items c.shard.inside.0 c.index-log.result.now c.index-log.ensures) in
     let show' = shown_inside log c.self.view_is show in
     c.origin_position.ensures
-    ∙ sym (position_is v log show' c.args.shard (iterator_start c.args.from) (log_of c.index-log.result.now) inside at)
+    ∙ sym (position_is v log show' c.args.shard (iterator_start c.args.from) (log_of c.index-log.result.now)
+    inside is_at)
     ∙ ap (λ (u : StreamValue). origin_position log u.clock (ref u.no c.args.shard) c.args.from) c.self.view_is

@@ -32,28 +32,29 @@ holds_back-requires c =
     c.home-shard.ensures.found.made)
 
 pub returns-then-holds_back-clause-answered : goal.returns-then-holds_back-clause-answered
-returns-then-holds_back-clause-answered c log by shown =
+returns-then-holds_back-clause-answered c log actor shown =
     let v : StreamValue = c.args.self.now in
-    let at = c.home-shard.ensures.value
+    let is_at = c.home-shard.ensures.value
     ∙ ap (λ (u : StreamValue). home_among (filter is_open u.tree) c.args.item.hash) c.self.view_is in
     let held =
     held_is log v.clock v.no v.tree c.args.item v.enforced c.home-shard.result c.item_bytes-bytes.result
-    (puts log v.no c.home-shard.result) shown.stored.shards_are shown.rates.enforced_is at c.item_bytes-bytes.ensures
+    (puts log v.no c.home-shard.result) shown.stored.shards_are shown.rates.enforced_is is_at c.item_bytes-bytes.ensures
     refl
     ∙ sym (c.holds_back.ensures (puts log v.no) shown.rates.stand) ∙ c.if-holds_back.true in
-    put_throttled v log by c.args.item shown c.home-shard.result at held
+    put_throttled v log actor c.args.item shown c.home-shard.result is_at held
 
 pub returns-then-seq-clause-answered : goal.returns-then-seq-clause-answered
-returns-then-seq-clause-answered c log by shown =
+returns-then-seq-clause-answered c log actor shown =
     let v : StreamValue = c.args.self.now in
-    let at = c.home-shard.ensures.value
+    let is_at = c.home-shard.ensures.value
     ∙ ap (λ (u : StreamValue). home_among (filter is_open u.tree) c.args.item.hash) c.self.view_is in
     let held =
     held_is log v.clock v.no v.tree c.args.item v.enforced c.home-shard.result c.item_bytes-bytes.result
-    (puts log v.no c.home-shard.result) shown.stored.shards_are shown.rates.enforced_is at c.item_bytes-bytes.ensures
+    (puts log v.no c.home-shard.result) shown.stored.shards_are shown.rates.enforced_is is_at c.item_bytes-bytes.ensures
     refl
     ∙ sym (c.holds_back.ensures (puts log v.no) shown.rates.stand) ∙ c.if-holds_back.false in
-    put_spent v log by c.args.item shown held (sym (ap (λ (u : StreamValue). u.next) c.self.view_is) ∙ sym c.seq.view_is
+    put_spent v log actor c.args.item shown held (sym (ap (λ (u : StreamValue). u.next) c.self.view_is)
+    ∙ sym c.seq.view_is
     ∙ c.if-seq.true)
 
 pub put_at-requires-clause-within : goal.put_at-requires-clause-within
@@ -95,7 +96,7 @@ invariant_of-self-2 c =
     (settled_stream _ sh v.next_to_settle stored))
 
 pub returns-clause-answered : goal.returns-clause-answered
-returns-clause-answered c log by shown =
+returns-clause-answered c log actor shown =
     let v : StreamValue = the_view c.self.inside in
     let inside = slice_get_within c.self.inside.tree.shards c.home-shard.result c.home-shard.ensures.found.state
     c.home-shard.ensures.found.made in
@@ -110,12 +111,12 @@ returns-clause-answered c log by shown =
     let back = put_back _ sh _ (floor_of v.cut) _ c.put_at.new.logs _ _ (omega arith) c.in_ok-put_at.ensures.ok
     c.deref_mut.ensures.value c.shard.view_is in
     let many : length ws ≡ c.self.inside.windows.len = omega arith in
-    let at = c.home-shard.ensures.value
+    let is_at = c.home-shard.ensures.value
     ∙ ap (λ (u : StreamValue). home_among (filter is_open u.tree) c.args.item.hash) c.self.view_is in
     let now : StreamValue = c.args.self.now in
     let held_now =
     held_is log now.clock now.no now.tree c.args.item now.enforced sh c.item_bytes-bytes.result
-    (puts log now.no sh) shown.stored.shards_are shown.rates.enforced_is at c.item_bytes-bytes.ensures refl
+    (puts log now.no sh) shown.stored.shards_are shown.rates.enforced_is is_at c.item_bytes-bytes.ensures refl
     ∙ sym (c.holds_back.ensures (puts log now.no) shown.rates.stand) ∙ c.if-holds_back.false in
     let held : is_held_back log v.clock v.no c.args.item ≡ false =
     subst (λ (u : StreamValue). is_held_back log u.clock u.no c.args.item ≡ false) (sym c.self.view_is) held_now in
@@ -128,13 +129,13 @@ returns-clause-answered c log by shown =
     StandFor (with_put i p (puts log v.no)) 0 ws) c.shard.view_is
     (c.count_at.ensures.stand (puts log v.no) lent)) in
     let done =
-    put_done v log by c.args.item shown'.stored sh next _ ws held
+    put_done v log actor c.args.item shown'.stored sh next _ ws held
     (ap (λ n. n + 1) c.seq-2.view_is) more c.home-shard.ensures.value inside c.self.invariant.trims refl shown'.rates
     stand in
-    let after = with_lines (lines_of (put log v.clock by v.no c.args.item)) log in
+    let after = with_lines (lines_of (put log v.clock actor v.no c.args.item)) log in
     let settled = subst (λ (us : List WindowValue). Shows (with_logs v kept us next) after)
     (sym (written_back c.self.inside.windows.len ws c.self.inside.windows.items many))
     (subst (λ (ls : List LogValue). Shows (with_logs v ls ws next) after) (sym back)
     (shows_settled _ sh v.clock v.cut v.next_to_settle after done.1)) in
-    led_along (λ (u : StreamValue). put log u.clock by u.no c.args.item) v c.args.self.now _ log _ c.self.view_is
+    led_along (λ (u : StreamValue). put log u.clock actor u.no c.args.item) v c.args.self.now _ log _ c.self.view_is
     (done.0, settled)

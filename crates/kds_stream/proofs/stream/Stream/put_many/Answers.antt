@@ -25,7 +25,7 @@ use Rattle.kds_stream.specs.contracts.stream.Stream.{the_view}
 use Rattle.kds_stream.proofs.stream.Stream.put_many.Goals as goal
 
 pub returns-in_default-clause-answered : goal.returns-in_default-clause-answered
-returns-in_default-clause-answered c log by shown =
+returns-in_default-clause-answered c log actor shown =
     let v : StreamValue = the_view c.self.inside in
     let shown' : Shows v log = shown_inside log c.self.view_is shown in
     let same = c.from_vec-items.ensures.items ∙ c.into_vec.ensures in
@@ -41,12 +41,12 @@ returns-in_default-clause-answered c log by shown =
     (subst (λ items. 2 ^ 64 ≤ c.seq.inside.0 + length (taken v.tree v.clock v.enforced (puts log v.no) items))
     same over) in
     let none = subst (λ o. IfNone o (ws ≡ c.deref_mut.result.now)) c.in_default.is c.in_ok-made.ensures.none in
-    let done = puts_spent v log by c.args.items shown' over' in
-    led_along (λ (u : StreamValue). put_many log u.clock by u.no c.args.items) v c.args.self.now _ log _
+    let done = puts_spent v log actor c.args.items shown' over' in
+    led_along (λ (u : StreamValue). put_many log u.clock actor u.no c.args.items) v c.args.self.now _ log _
     c.self.view_is (
       done.0,
       subst (λ (us : List WindowValue).
-          Shows (record v { windows = us }) (with_lines (lines_of (put_many log v.clock by v.no c.args.items)) log))
+          Shows (record v { windows = us }) (with_lines (lines_of (put_many log v.clock actor v.no c.args.items)) log))
           (sym (written_back c.self.inside.windows.len ws c.self.inside.windows.items many ∙ none ∙ lent)) done.1,
     )
 
@@ -103,7 +103,7 @@ invariant_of-self-2 c =
     (subst (λ (ls : List LogValue). IsStream (with_logs v ls ws next)) (sym back) (stream_each v ws next ps _ stored))
 
 pub returns-clause-answered : goal.returns-clause-answered
-returns-clause-answered c log by shown =
+returns-clause-answered c log actor shown =
     let v : StreamValue = the_view c.self.inside in
     let f = floor_of v.cut in
     let ps = c.as_slice.result.now in
@@ -130,10 +130,10 @@ returns-clause-answered c log by shown =
     ∙ c.in_default-put_all.ensures.ok
     ∙ ap (λ (ls : List LogWithReserve). settled_each f ps (with_each r.routed.items (map log_of ls)))
     c.deref_mut-2.ensures.value in
-    let after = with_lines (lines_of (put_many log v.clock by v.no c.args.items)) log in
-    let done = puts_done v log by c.args.items shown' r _ ws placed.fits c.self.invariant.trims made placed.within
+    let after = with_lines (lines_of (put_many log v.clock actor v.no c.args.items)) log in
+    let done = puts_done v log actor c.args.items shown' r _ ws placed.fits c.self.invariant.trims made placed.within
     refl in
-    led_along (λ (u : StreamValue). put_many log u.clock by u.no c.args.items) v c.args.self.now _ log _
+    led_along (λ (u : StreamValue). put_many log u.clock actor u.no c.args.items) v c.args.self.now _ log _
     c.self.view_is (
       done.0,
       subst (λ (us : List WindowValue). Shows (with_logs v kept us r.next) after)

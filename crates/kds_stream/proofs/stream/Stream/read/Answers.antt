@@ -29,12 +29,12 @@ returns-clause-batch c log show =
     let inside = made_within v c.args.shard c.self.invariant
     (subst (λ (u : StreamValue). is_listed_at (floor_of u.cut) (slice_get u.tree c.args.shard) ≡ true)
     (sym c.self.view_is) c.requires) in
-    let at = subst (λ n. log_of c.index-log.result.now ≡ get_or v.logs n (log_of c.index-log.result.now))
+    let is_at = subst (λ n. log_of c.index-log.result.now ≡ get_or v.logs n (log_of c.index-log.result.now))
     c.shard.view_is (log_at c.self.inside.logs.items c.shard.inside.0 c.index-log.result.now c.index-log.ensures) in
     let show' = shown_inside log c.self.view_is show in
     c.in_ok-batch.ensures.batch
     ∙ ap (map stored) (sym
-    (batch_is v log show' c.args.shard (log_of c.index-log.result.now) inside at c.args.position c.args.limit))
+    (batch_is v log show' c.args.shard (log_of c.index-log.result.now) inside is_at c.args.position c.args.limit))
     ∙ ap (λ (u : StreamValue). map stored (batch log u.clock u.no c.args.shard c.args.position c.args.limit))
     c.self.view_is
 
@@ -44,7 +44,7 @@ returns-clause-end c log show =
     let inside = made_within v c.args.shard c.self.invariant
     (subst (λ (u : StreamValue). is_listed_at (floor_of u.cut) (slice_get u.tree c.args.shard) ≡ true)
     (sym c.self.view_is) c.requires) in
-    let at = subst (λ n. log_of c.index-log.result.now ≡ get_or v.logs n (log_of c.index-log.result.now))
+    let is_at = subst (λ n. log_of c.index-log.result.now ≡ get_or v.logs n (log_of c.index-log.result.now))
     c.shard.view_is (log_at c.self.inside.logs.items c.shard.inside.0 c.index-log.result.now c.index-log.ensures) in
     let show' = shown_inside log c.self.view_is show in
     let left = c.first_left-left.result in
@@ -55,13 +55,13 @@ returns-clause-end c log show =
     elim c.match-shard.branch [
       | in-Some w ↦
           read_end v log show' c.args.shard c.args.position c.args.limit c.in_ok-batch.reach
-          (log_of c.index-log.result.now) left inside at c.in_ok-batch.ensures.reach c.first_left-left.ensures.value
+          (log_of c.index-log.result.now) left inside is_at c.in_ok-batch.ensures.reach c.first_left-left.ensures.value
           w.in-Some.state.now c.match-shard.end
           w.in-Some.ensures.value (w.end-is ∙ w.is_end-end.ensures
           ∙ ap (λ b. is_some w.in-Some.state.now.end && b) (none_of left w.is_none.result w.is_none.ensures))
           ∙ along
       | in-None w ↦
           read_no_end v log show' c.args.shard c.args.position c.args.limit c.in_ok-batch.reach
-          (log_of c.index-log.result.now) left inside at c.in_ok-batch.ensures.reach c.first_left-left.ensures.value
+          (log_of c.index-log.result.now) left inside is_at c.in_ok-batch.ensures.reach c.first_left-left.ensures.value
           c.match-shard.end w.in-None.ensures.value w.end-is ∙ along
     ]

@@ -68,7 +68,8 @@ returns-then-end c log show =
     ≡ option_map shown (listed_at (floor_of u.cut) (slice_get u.tree c.args.iter.now.shard))) (sym c.self.view_is)
     (sym c.in-Some.is ∙ c.listed.ensures.value) in
     let own = subst (λ (u : StreamValue). c.args.iter.now.stream ≡ u.no) (sym c.self.view_is) c.requires.stream in
-    let at = subst (λ n. log_of c.index-log.result.now ≡ get_or v.logs n (log_of c.index-log.result.now)) c.no.view_is
+    let is_at = subst (λ n. log_of c.index-log.result.now ≡ get_or v.logs n (log_of c.index-log.result.now))
+    c.no.view_is
     (log_at c.self.inside.logs.items c.no.inside.0 c.index-log.result.now c.index-log.ensures) in
     let end = c.if-end.ensures
     ∙ ap (λ b. is_some c.in-Some.shard.end && b)
@@ -78,7 +79,7 @@ returns-then-end c log show =
     (records_end v log show' c.args.iter.now c.args.limit c.in_ok-batch.reach c.in-Some.shard
     (log_of c.index-log.result.now) c.first_left-left.result c.in_ok-batch.batch c.millis_behind-behind.result own
     c.if-iter_expired.ensures listed
-    (listed_within v c.args.iter.now.shard c.in-Some.shard c.self.invariant listed) at c.in_ok-batch.ensures.batch
+    (listed_within v c.args.iter.now.shard c.in-Some.shard c.self.invariant listed) is_at c.in_ok-batch.ensures.batch
     c.in_ok-batch.ensures.reach c.first_left-left.ensures.value c.millis_behind-behind.ensures
     c.in_ok-children.children end c.in_ok-children.ensures)
 
@@ -90,7 +91,8 @@ returns c log show =
     ≡ option_map shown (listed_at (floor_of u.cut) (slice_get u.tree c.args.iter.now.shard))) (sym c.self.view_is)
     (sym c.in-Some.is ∙ c.listed.ensures.value) in
     let own = subst (λ (u : StreamValue). c.args.iter.now.stream ≡ u.no) (sym c.self.view_is) c.requires.stream in
-    let at = subst (λ n. log_of c.index-log.result.now ≡ get_or v.logs n (log_of c.index-log.result.now)) c.no.view_is
+    let is_at = subst (λ n. log_of c.index-log.result.now ≡ get_or v.logs n (log_of c.index-log.result.now))
+    c.no.view_is
     (log_at c.self.inside.logs.items c.no.inside.0 c.index-log.result.now c.index-log.ensures) in
     let end = c.if-end.ensures
     ∙ ap (λ b. is_some c.in-Some.shard.end && b)
@@ -100,6 +102,6 @@ returns c log show =
     (records_more v log show' c.args.iter.now c.args.limit c.in_ok-batch.reach c.in-Some.shard
     (log_of c.index-log.result.now) c.first_left-left.result c.in_ok-batch.batch c.millis_behind-behind.result own
     c.if-iter_expired.ensures listed
-    (listed_within v c.args.iter.now.shard c.in-Some.shard c.self.invariant listed) at c.in_ok-batch.ensures.batch
+    (listed_within v c.args.iter.now.shard c.in-Some.shard c.self.invariant listed) is_at c.in_ok-batch.ensures.batch
     c.in_ok-batch.ensures.reach c.first_left-left.ensures.value c.millis_behind-behind.ensures c.new.result end
     c.new.ensures)

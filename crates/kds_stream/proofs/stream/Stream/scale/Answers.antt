@@ -12,9 +12,10 @@ use Rattle.kds_stream.specs.Value.{StreamValue}
 use Rattle.kds_stream.proofs.stream.Stream.scale.Goals as goal
 
 pub returns-then-from-open_limit-clause-answered : goal.returns-then-from-open_limit-clause-answered
-returns-then-from-open_limit-clause-answered c log by shown =
+returns-then-from-open_limit-clause-answered c log actor shown =
     let more : c.args.open_limit < c.args.target = omega arith in
-    scale_full c.args.self.now log by c.args.target shown (is_over c.args.target c.args.open_limit) (is_less _ _ more)
+    scale_full c.args.self.now log actor c.args.target shown (is_over c.args.target c.args.open_limit)
+    (is_less _ _ more)
 
 pub made_by-made-requires : goal.made_by-made-requires
 made_by-made-requires c =
@@ -23,7 +24,7 @@ made_by-made-requires c =
     ∙ c.in_ok-starts.ensures.value) c.self.invariant.few c.requires.1 c.in_ok-steps.ensures.count)
 
 pub returns-then-is_spent-clause-answered : goal.returns-then-is_spent-clause-answered
-returns-then-is_spent-clause-answered c log by shown =
+returns-then-is_spent-clause-answered c log actor shown =
     let v : StreamValue = c.args.self.now in
     let steps : List ScaleStep = c.as_slice-steps.result.now in
     let starts : c.as_slice.result.now ≡ starts_in v.tree = c.as_slice.ensures ∙ c.in_ok-starts.ensures.value
@@ -37,14 +38,14 @@ returns-then-is_spent-clause-answered c log by shown =
     ∙ ap (λ (u : StreamValue). length u.tree) c.self.view_is)
     (c.from-2.ensures ∙ c.made_by-made.ensures))
     ∙ sym c.is_spent.ensures ∙ c.if-is_spent.true in
-    scale_spent v log by c.args.target shown (is_over c.args.target c.args.open_limit) steps (is_not_less _ _ most)
+    scale_spent v log actor c.args.target shown (is_over c.args.target c.args.open_limit) steps (is_not_less _ _ most)
     are spent
 
 pub returns-clause-answered : goal.returns-clause-answered
-returns-clause-answered c log by shown =
+returns-clause-answered c log actor shown =
     let v : StreamValue = c.args.self.now in
     let most : c.args.target ≤ c.args.open_limit = omega arith in
-    subst (λ full. (Ok c.in_ok-reply.reply ≡ answer_of (scale_where full log v.clock by v.name v.no c.args.target))
+    subst (λ full. (Ok c.in_ok-reply.reply ≡ answer_of (scale_where full log v.clock actor v.name v.no c.args.target))
     × Shows c.carry_out.new.self
-    (with_lines (lines_of (scale_where full log v.clock by v.name v.no c.args.target)) log))
-    (sym (is_not_less _ _ most)) (c.in_ok-reply.ensures.answered log by shown)
+    (with_lines (lines_of (scale_where full log v.clock actor v.name v.no c.args.target)) log))
+    (sym (is_not_less _ _ most)) (c.in_ok-reply.ensures.answered log actor shown)

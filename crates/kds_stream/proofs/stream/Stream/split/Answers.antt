@@ -46,7 +46,7 @@ invariant_of-self-2 c =
     unused refl c.self.invariant
 
 pub returns-clause-answered : goal.returns-clause-answered
-returns-clause-answered c log by show =
+returns-clause-answered c log actor show =
     let v : StreamValue = the_view c.self.inside in
     let free : v.next ≢ last_number =
     subst (λ (u : StreamValue). u.next ≢ last_number) (sym c.self.view_is) c.in_default.ensures.unspent in
@@ -68,8 +68,9 @@ returns-clause-answered c log by show =
       record { none = c.new-3.ensures.puts; never = c.new-3.ensures.latest },
       (record { none = c.new-4.ensures.puts; never = c.new-4.ensures.latest }, tt),
     ) in
-    split_done c.args.self.now v _ (is_full c.args.self.now c.args.open_limit) log by c.args.shard c.args.at
+    split_done c.args.self.now v _ (is_full c.args.self.now c.args.open_limit) log actor c.args.shard c.args.at
     c.self.view_is
-    (c.in_default.ensures.decided log by show)
-    (shows_split v log by show' c.self.invariant.as_many c.self.invariant.rated.as_many c.args.shard c.args.at _ _ _ _
+    (c.in_default.ensures.decided log actor show)
+    (shows_split v log actor show' c.self.invariant.as_many c.self.invariant.rated.as_many c.args.shard c.args.at _ _ _
+    _
     ws (ap (λ n. n + 1) c.seq.view_is) tree logs windows unused)

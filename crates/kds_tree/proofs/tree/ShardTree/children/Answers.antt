@@ -13,7 +13,7 @@ returns c =
     let families : AreFamilies firsts xs =
     subst (AreFamilies firsts) (ap (λ (t : TreeValue). t.shards) c.self.view_is) c.self.invariant.families in
     let all : c.deref.result.now ≡ xs = c.deref.ensures.value ∙ ap (λ (t : TreeValue). t.shards) c.self.view_is in
-    let told = subst (λ (us : List ShardState). AreFamilies c.deref-2.result.now us) (sym all)
+    let is_told = subst (λ (us : List ShardState). AreFamilies c.deref-2.result.now us) (sym all)
     (subst (λ (fs : List (Option ℕ)). AreFamilies fs xs) (sym c.deref-2.ensures.value) families) in
     subst (λ (us : List Shard). IfOk c.children_in.result (λ shards. shards ≡ us))
-    (ap (map shown) (c.family_of-family.ensures.all told ∙ ap (children_among c.args.no) all)) c.children_in.ensures
+    (ap (map shown) (c.family_of-family.ensures.all is_told ∙ ap (children_among c.args.no) all)) c.children_in.ensures

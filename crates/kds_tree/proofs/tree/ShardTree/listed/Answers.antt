@@ -42,7 +42,7 @@ returns-clause-shards c =
     (sym c.deref.ensures.value) c.self.invariant.front) in
     let front' : AreLeft (floor_of c.args.cut) 0 count left xs =
     subst (AreLeft (floor_of c.args.cut) 0 count left) (c.deref.ensures.value ∙ is) front in
-    let from = c.numbers_from-numbers.ensures (floor_of c.args.cut) count xs front' in
+    let is_from = c.numbers_from-numbers.ensures (floor_of c.args.cut) count xs front' in
     let all = c.deref-2.ensures.value ∙ is in
     let behind = ap (drop start) (sym all)
     ∙ c.start_behind-start.ensures.behind (subst (λ (us : List ShardState). IsTree us) (sym all) tree).numbered
@@ -52,7 +52,7 @@ returns-clause-shards c =
     (c.deref-4.ensures.value ∙ is)
     ∙ ap (λ (us : List ShardState). listing c.args.cut (picked names xs ++ us)) (c.split_at.ensures.back
     ∙ ap (drop c.max.result) (c.deref-3.ensures.value ∙ is))
-    ∙ listing_left c.args.cut c.args.after xs names count start c.max.result from c.max.ensures behind)
+    ∙ listing_left c.args.cut c.args.after xs names count start c.max.result is_from c.max.ensures behind)
     c.page_of.ensures.shards
 
 pub returns-clause-more : goal.returns-clause-more
@@ -69,7 +69,7 @@ returns-clause-more c =
     (sym c.deref.ensures.value) c.self.invariant.front) in
     let front' : AreLeft (floor_of c.args.cut) 0 count left xs =
     subst (AreLeft (floor_of c.args.cut) 0 count left) (c.deref.ensures.value ∙ is) front in
-    let from = c.numbers_from-numbers.ensures (floor_of c.args.cut) count xs front' in
+    let is_from = c.numbers_from-numbers.ensures (floor_of c.args.cut) count xs front' in
     let all = c.deref-2.ensures.value ∙ is in
     let behind = ap (drop start) (sym all)
     ∙ c.start_behind-start.ensures.behind (subst (λ (us : List ShardState). IsTree us) (sym all) tree).numbered
@@ -79,5 +79,5 @@ returns-clause-more c =
     (c.deref-4.ensures.value ∙ is)
     ∙ ap (λ (us : List ShardState). listing c.args.cut (picked names xs ++ us)) (c.split_at.ensures.back
     ∙ ap (drop c.max.result) (c.deref-3.ensures.value ∙ is))
-    ∙ listing_left c.args.cut c.args.after xs names count start c.max.result from c.max.ensures behind)
+    ∙ listing_left c.args.cut c.args.after xs names count start c.max.result is_from c.max.ensures behind)
     c.page_of.ensures.more

@@ -1,7 +1,7 @@
 use Rattle.std.proofs.Common.{◌∙◌}
 use Rattle.clap.specs.Words.{found_of}
 use Rattle.kds_cli_words.proofs.Reading.{told_read}
-use Rattle.kds_cli_words.proofs.words.task_told.Goals as goal
+use Rattle.kds_cli_words.proofs.words.task_in.Goals as goal
 
 pub returns-clause-task : goal.returns-clause-task
 returns-clause-task c =

@@ -1,5 +1,5 @@
 use Rattle.std.proofs.Common.{rules}
-use Rattle.kcl_script.proofs.workers.kind_of.Goals as goal
+use Rattle.kcl_script.proofs.workers.parse_kind.Goals as goal
 
 pub returns-then-eq-2 : goal.returns-then-eq-2
 returns-then-eq-2 c = search rules
