@@ -1,7 +1,7 @@
 #!/usr/bin/env bash
 # Every check that needs no proof, on the quick program: the tests in Rattle as `rt try` runs them, and what .ci/run has
-# behind the gate (.ci/steps). A step that fails doesn't end it. The last lines say what was skipped, which steps failed,
-# what wasn't done, and how many checks passed and failed.
+# behind the gate (.ci/steps). A step that fails doesn't end it. The last lines say what was skipped, which steps
+# failed, what wasn't done, and how many checks passed and failed.
 #
 #     .ci/quick.sh     takes no words; KDS= names another program
 set -u
@@ -48,12 +48,13 @@ attend() { # WORD..
 
 # Each check takes the program from KDS. What this names already stays.
 if [ -z "${KDS:-}" ]; then
-    attend help/try --name > "$work/name" || exit
+    attend build/try --name > "$work/name" || exit
     KDS=$(cat "$work/name")
 fi
 export KDS
 
-# The tests of a crate in Rattle. A crate that is a program has none, and is run instead: it must print what its file `stdout` has.
+# The tests of a crate in Rattle. A crate that is a program has none, and is run instead: it must print what its file
+# `stdout` has.
 tests() { # CRATE
     cd "crates/$1" || return
     if [ ! -e stdout ]; then
@@ -66,8 +67,8 @@ tests() { # CRATE
     rt try --seconds 300 -- "${words[@]}" < "$input" > "$work/given" && cmp "$work/given" stdout
 }
 
-# A first run compiles the program in parts, unless there is one processor (help/quick). One that help/parts.py refuses
-# is compiled as one, which takes longer.
+# A first run compiles the program in parts, unless there is one processor (build/quick). One that build/parts.py
+# refuses is compiled as one, which takes longer.
 in_parts() {
     if ! [ "$KDS" -ef "out/quick/${KDS##*/}" ]; then
         echo "skipped: KDS names a program that isn't this folder's quick one"
@@ -84,9 +85,9 @@ done
 mapfile -t -O "${#steps[@]}" steps < <(grep -v '^#' .ci/steps)
 [ -r .ci/steps ] || exit 1
 
-# The clients wait for most of their time. So they run behind the other steps from the beginning, one after another, and
+# The clients wait for most of their time. So they run beside the other steps from the beginning, one after another, and
 # what each says is shown where it stands among the steps.
-is_behind() { [[ $1 = clients/* ]]; }
+is_behind() { [[ $1 = tests/clients* || $1 = tests/viewer* ]]; }
 run_behind() {
     local at status
     for at in "${!steps[@]}"; do
@@ -125,10 +126,12 @@ for at in "${!steps[@]}"; do
     printf '== step %d of %d, %d left: %s\n' $((at + 1)) "${#steps[@]}" $((${#steps[@]} - at - 1)) "${steps[at]}"
     attend run_step "$at"
     status=$?
-    # A step counts its checks in its last such line. One that has none, or that fails with none that failed, is one check.
+    # A step counts its checks in its last such line. One that has none, or that fails with none that failed, is one
+    # check.
     good=0
     bad=0
-    read -r good bad < <(sed -n 's/^\(.* \)\{0,1\}\([0-9]*\) passed, \([0-9]*\) failed$/\2 \3/p' "$work/said" | tail -n 1)
+    read -r good bad \
+        < <(sed -n 's/^\(.* \)\{0,1\}\([0-9]*\) passed, \([0-9]*\) failed$/\2 \3/p' "$work/said" | tail -n 1)
     [ $((good + bad)) -gt 0 ] || [ "$status" -ne 0 ] || good=1
     [ "$status" -eq 0 ] || [ "${bad:-0}" -gt 0 ] || bad=1
     passed=$((passed + good))

@@ -27,12 +27,14 @@ struct text {
 /* ---- MD5 (RFC 1321) */
 
 static const uint32_t md5_sines[64] = {
-    0xd76aa478, 0xe8c7b756, 0x242070db, 0xc1bdceee, 0xf57c0faf, 0x4787c62a, 0xa8304613, 0xfd469501, 0x698098d8, 0x8b44f7af, 0xffff5bb1,
-    0x895cd7be, 0x6b901122, 0xfd987193, 0xa679438e, 0x49b40821, 0xf61e2562, 0xc040b340, 0x265e5a51, 0xe9b6c7aa, 0xd62f105d, 0x02441453,
-    0xd8a1e681, 0xe7d3fbc8, 0x21e1cde6, 0xc33707d6, 0xf4d50d87, 0x455a14ed, 0xa9e3e905, 0xfcefa3f8, 0x676f02d9, 0x8d2a4c8a, 0xfffa3942,
-    0x8771f681, 0x6d9d6122, 0xfde5380c, 0xa4beea44, 0x4bdecfa9, 0xf6bb4b60, 0xbebfbc70, 0x289b7ec6, 0xeaa127fa, 0xd4ef3085, 0x04881d05,
-    0xd9d4d039, 0xe6db99e5, 0x1fa27cf8, 0xc4ac5665, 0xf4292244, 0x432aff97, 0xab9423a7, 0xfc93a039, 0x655b59c3, 0x8f0ccc92, 0xffeff47d,
-    0x85845dd1, 0x6fa87e4f, 0xfe2ce6e0, 0xa3014314, 0x4e0811a1, 0xf7537e82, 0xbd3af235, 0x2ad7d2bb, 0xeb86d391};
+    0xd76aa478, 0xe8c7b756, 0x242070db, 0xc1bdceee, 0xf57c0faf, 0x4787c62a, 0xa8304613, 0xfd469501, 0x698098d8,
+    0x8b44f7af, 0xffff5bb1, 0x895cd7be, 0x6b901122, 0xfd987193, 0xa679438e, 0x49b40821, 0xf61e2562, 0xc040b340,
+    0x265e5a51, 0xe9b6c7aa, 0xd62f105d, 0x02441453, 0xd8a1e681, 0xe7d3fbc8, 0x21e1cde6, 0xc33707d6, 0xf4d50d87,
+    0x455a14ed, 0xa9e3e905, 0xfcefa3f8, 0x676f02d9, 0x8d2a4c8a, 0xfffa3942, 0x8771f681, 0x6d9d6122, 0xfde5380c,
+    0xa4beea44, 0x4bdecfa9, 0xf6bb4b60, 0xbebfbc70, 0x289b7ec6, 0xeaa127fa, 0xd4ef3085, 0x04881d05, 0xd9d4d039,
+    0xe6db99e5, 0x1fa27cf8, 0xc4ac5665, 0xf4292244, 0x432aff97, 0xab9423a7, 0xfc93a039, 0x655b59c3, 0x8f0ccc92,
+    0xffeff47d, 0x85845dd1, 0x6fa87e4f, 0xfe2ce6e0, 0xa3014314, 0x4e0811a1, 0xf7537e82, 0xbd3af235, 0x2ad7d2bb,
+    0xeb86d391};
 
 /* A round of 16 steps, written out: the places of the sines, of the words and the turns are constants then. */
 #define MD5_STEP(a, b, c, d, mix, i, from, turn) \
@@ -89,21 +91,23 @@ static PART u128 hash_of(struct text key) {
 
 static const char base64_digits[] = "ABCDEFGHIJKLMNOPQRSTUVWXYZabcdefghijklmnopqrstuvwxyz0123456789+/";
 static signed char base64_values[256];
-static uint32_t base64_bits[4][256];  /* what a digit gives at each of four places; its highest bit is set if the byte is no digit */
-static char base64_pairs[4096][2];    /* the two digits of 12 bits */
+/* what a digit gives at each of four places; its highest bit is set if the byte is no digit */
+static uint32_t base64_bits[4][256];
+static char base64_pairs[4096][2];  /* the two digits of 12 bits */
 
 static void base64_begin(void) {
     memset(base64_values, -1, sizeof base64_values);
     for (int i = 0; i < 64; i++) base64_values[(unsigned char)base64_digits[i]] = (signed char)i;
     for (int place = 0; place < 4; place++)
-        for (int c = 0; c < 256; c++) base64_bits[place][c] = base64_values[c] < 0 ? 1u << 31 : (uint32_t)base64_values[c] << (18 - 6 * place);
+        for (int c = 0; c < 256; c++)
+            base64_bits[place][c] = base64_values[c] < 0 ? 1u << 31 : (uint32_t)base64_values[c] << (18 - 6 * place);
     for (int i = 0; i < 4096; i++) {
         base64_pairs[i][0] = base64_digits[i >> 6];
         base64_pairs[i][1] = base64_digits[i & 63];
     }
 }
 
-/* Decodes, and gives the number of bytes, or -1 if the text isn't base64. It may write 16 bytes behind them. It takes
+/* Decodes, and gives the number of bytes, or -1 if the text isn't base64. It may write 16 bytes after them. It takes
  * sixteen digits at once (W. Mula's way, SSSE3): the processors that the program is compiled for have that too. */
 __attribute__((target("ssse3"))) static PART long decode(struct text from, unsigned char *to) {
     if (from.len % 4) return -1;
@@ -136,7 +140,8 @@ __attribute__((target("ssse3"))) static PART long decode(struct text from, unsig
         memcpy(end, &bytes, 4);
     }
     int pad = at[3] != '=' ? 0 : at[2] != '=' ? 1 : 2;
-    uint32_t bits = base64_bits[0][at[0]] | base64_bits[1][at[1]] | (pad < 2 ? base64_bits[2][at[2]] : 0) | (pad < 1 ? base64_bits[3][at[3]] : 0);
+    uint32_t bits = base64_bits[0][at[0]] | base64_bits[1][at[1]] | (pad < 2 ? base64_bits[2][at[2]] : 0)
+        | (pad < 1 ? base64_bits[3][at[3]] : 0);
     if ((seen | bits) >> 31) return -1;
     *end++ = (unsigned char)(bits >> 16);
     if (pad < 2) *end++ = (unsigned char)(bits >> 8);
@@ -183,7 +188,7 @@ __attribute__((target("ssse3"))) static PART char *encode(const unsigned char *f
 
 /* ---- members */
 
-/* The text of a member, found by its name and its quotes, from a place on. The place moves behind it. */
+/* The text of a member, found by its name and its quotes, from a place on. The place moves after it. */
 static int member(const char **from, const char *end, const char *name, size_t name_len, struct text *found) {
     const char *at = memmem(*from, (size_t)(end - *from), name, name_len);
     if (!at) return 0;
@@ -202,8 +207,9 @@ static int member(const char **from, const char *end, const char *name, size_t n
 #define TEN(tens) tens "0" tens "1" tens "2" tens "3" tens "4" tens "5" tens "6" tens "7" tens "8" tens "9"
 static const char hundred[] = TEN("0") TEN("1") TEN("2") TEN("3") TEN("4") TEN("5") TEN("6") TEN("7") TEN("8") TEN("9");
 static const uint64_t powers[20] = {
-    1u, 10u, 100u, 1000u, 10000u, 100000u, 1000000u, 10000000u, 100000000u, 1000000000u, 10000000000u, 100000000000u, 1000000000000u,
-    10000000000000u, 100000000000000u, 1000000000000000u, 10000000000000000u, 100000000000000000u, 1000000000000000000u, 10000000000000000000u};
+    1u, 10u, 100u, 1000u, 10000u, 100000u, 1000000u, 10000000u, 100000000u, 1000000000u, 10000000000u, 100000000000u,
+    1000000000000u, 10000000000000u, 100000000000000u, 1000000000000000u, 10000000000000000u, 100000000000000000u,
+    1000000000000000000u, 10000000000000000000u};
 
 /* A number of at most this length, with zeros in front. */
 static char *print_padded(char *to, uint64_t n, int len) {

@@ -1,7 +1,8 @@
-/* A ceiling for `kds replay`: the least honest work on each line of a schedule, as strict as the program is. Lines are split within their
- * lengths, bodies are read in one pass (strict.h), keys hashed, payloads decoded, what a shard takes within a second counted, records stored
- * in the open shard of their key, batches found by halves; the replies are written as the program writes them, 64 KiB at a time. Splits and
- * merges keep plain lists of the open shards. Of refusals and of commands it knows those that bench/replay makes, and no others.
+/* A ceiling for `kds replay`: the least honest work on each line of a schedule, as strict as the program is. Lines are
+ * split within their lengths, bodies are read in one pass (strict.h), keys hashed, payloads decoded, what a shard takes
+ * within a second counted, records stored in the open shard of their key, batches found by halves; the replies are
+ * written as the program writes them, 64 KiB at a time. Splits and merges keep plain lists of the open shards. Of
+ * refusals and of commands it knows those that bench/replay makes, and no others.
  *
  *     lines < SCHEDULE > OUTPUT */
 #include "strict.h"
@@ -110,7 +111,8 @@ static size_t add_shard(struct stream *s, u128 start, u128 end, uint64_t first, 
         s->shards = realloc(s->shards, s->room * sizeof *s->shards);
         if (!s->shards) exit(6);
     }
-    s->shards[s->count] = (struct shard){.start = start, .end = end, .first = first, .open = 1, .parent = parent, .adjacent = adjacent, .child = -1};
+    s->shards[s->count] = (struct shard){.start = start, .end = end, .first = first, .open = 1,
+                                         .parent = parent, .adjacent = adjacent, .child = -1};
     add_open(s, s->count);
     return s->count++;
 }
@@ -166,7 +168,8 @@ static void count_put(struct window *w, size_t bytes) {
     w->bytes += bytes;
 }
 
-static PART void store(struct stream *s, struct text key, struct text data, u128 *explicit_, size_t *shard, uint64_t *seq) {
+static PART void store(struct stream *s, struct text key, struct text data, u128 *explicit_, size_t *shard,
+                       uint64_t *seq) {
     struct record r = {.arrival = clock_, .key_len = key.len};
     r.bytes = take(key.len + data.len / 4 * 3 + 16);
     memcpy(r.bytes, key.at, key.len);
@@ -198,8 +201,15 @@ static PART int checked(struct item *f, u128 *hash, const char **what) {
     if (f->key.kind == NONE) { *what = "PartitionKey is missing"; return 0; }
     if (f->key.kind != STRING || !is_key(f->key.text)) { *what = "PartitionKey is not valid"; return 0; }
     if (f->data.kind == NONE) { *what = "Data is missing"; return 0; }
-    if (f->data.kind != STRING || bad_bits(f->data.text) || f->key.text.len + f->data.text.len / 4 * 3 > RECORD_BYTES) { *what = "Data is not valid"; return 0; }
-    if (f->hash.kind != NONE && (f->hash.kind != STRING || !wide(f->hash.text, hash))) { *what = "ExplicitHashKey is not valid"; return 0; }
+    if (f->data.kind != STRING || bad_bits(f->data.text)
+        || f->key.text.len + f->data.text.len / 4 * 3 > RECORD_BYTES) {
+        *what = "Data is not valid";
+        return 0;
+    }
+    if (f->hash.kind != NONE && (f->hash.kind != STRING || !wide(f->hash.text, hash))) {
+        *what = "ExplicitHashKey is not valid";
+        return 0;
+    }
     return 1;
 }
 
@@ -207,7 +217,10 @@ static PART int checked(struct item *f, u128 *hash, const char **what) {
 static struct stream *named(struct found *f, const char *body, const char *end) {
     if (!read_body(body, end, f)) { fault_("SerializationException", "body is not a JSON object"); return NULL; }
     if (f->stream.kind == NONE) { fault_("ValidationException", "StreamName is missing"); return NULL; }
-    if (f->stream.kind != STRING || !is_name(f->stream.text)) { fault_("ValidationException", "StreamName is not valid"); return NULL; }
+    if (f->stream.kind != STRING || !is_name(f->stream.text)) {
+        fault_("ValidationException", "StreamName is not valid");
+        return NULL;
+    }
     struct stream *s = stream_of(f->stream.text);
     if (!s) exit(1);
     return s;
@@ -267,7 +280,8 @@ static void get(const char *body, const char *end) {
     if (!read_body(body, end, &f) || !iterator_of(f.iterator, part)) exit(1);
     if (f.limit.kind != NONE && !number_in(f.limit, 1, 10000, &limit)) exit(1);
     uint64_t no = part[0], sh = part[1], position = part[2];
-    if (!no || no > stream_count || sh >= streams[no - 1].count || (clock_ > part[3] && clock_ - part[3] > 300000)) exit(1);
+    if (!no || no > stream_count || sh >= streams[no - 1].count
+        || (clock_ > part[3] && clock_ - part[3] > 300000)) exit(1);
     struct shard *x = &streams[no - 1].shards[sh];
     size_t from = first_of(x, position), last = x->log.count - from < limit ? x->log.count : from + limit;
     int ended = !x->open && last == x->log.count;
@@ -361,7 +375,8 @@ static void list(const char *body, const char *end) {
     struct found f;
     uint64_t after, most = 1000;
     struct stream *s = named(&f, body, end);
-    if (!s || (f.after.kind != NONE && !shard_id(f.after, &after)) || (f.most.kind != NONE && !number_in(f.most, 1, 10000, &most))) exit(1);
+    if (!s || (f.after.kind != NONE && !shard_id(f.after, &after))
+        || (f.most.kind != NONE && !number_in(f.most, 1, 10000, &most))) exit(1);
     static size_t page[10000];
     s->gone = next_listed(s, s->gone);
     size_t count = 0, i = f.after.kind == NONE || after < s->gone ? s->gone : next_listed(s, after + 1);
@@ -389,7 +404,8 @@ static void list(const char *body, const char *end) {
 static void create(const char *body, const char *end) {
     struct found f;
     uint64_t n;
-    if (!read_body(body, end, &f) || f.stream.kind != STRING || !is_name(f.stream.text) || !number_in(f.count, 1, 500, &n)) exit(1);
+    if (!read_body(body, end, &f) || f.stream.kind != STRING || !is_name(f.stream.text)
+        || !number_in(f.count, 1, 500, &n)) exit(1);
     if (stream_count == 64 || stream_of(f.stream.text)) exit(1);
     struct stream *s = &streams[stream_count++];
     char *kept = take(f.stream.text.len);
@@ -397,7 +413,8 @@ static void create(const char *body, const char *end) {
     *s = (struct stream){.name = {kept, f.stream.text.len}, .next = 1};
     by_name[slot_of(s->name)] = s;
     u128 width = (~(u128)0 - (n - 1)) / n + 1;
-    for (size_t i = 0; i < n; i++) add_shard(s, n == 1 ? 0 : i * width, i + 1 == n ? ~(u128)0 : (i + 1) * width - 1, 1, -1, -1);
+    for (size_t i = 0; i < n; i++)
+        add_shard(s, n == 1 ? 0 : i * width, i + 1 == n ? ~(u128)0 : (i + 1) * width - 1, 1, -1, -1);
     leases[stream_count - 1] = calloc(4096, sizeof(struct lease));
     to = PRINT(to, "200\n");
 }
@@ -407,7 +424,8 @@ static void split(const char *body, const char *end) {
     struct stream *s = named(&f, body, end);
     uint64_t sh;
     u128 cut;
-    if (!s || !shard_id(f.split, &sh) || f.start.kind != STRING || !wide(f.start.text, &cut) || sh >= s->count || !s->shards[sh].open) exit(1);
+    if (!s || !shard_id(f.split, &sh) || f.start.kind != STRING || !wide(f.start.text, &cut)
+        || sh >= s->count || !s->shards[sh].open) exit(1);
     u128 start = s->shards[sh].start, last = s->shards[sh].end;
     if (cut <= start || cut > last) exit(1);
     uint64_t seq = s->next++;
@@ -421,10 +439,12 @@ static void merge(const char *body, const char *end) {
     struct found f;
     struct stream *s = named(&f, body, end);
     uint64_t a, b;
-    if (!s || !shard_id(f.merge, &a) || !shard_id(f.adjacent, &b) || a >= s->count || b >= s->count || !s->shards[a].open || !s->shards[b].open) exit(1);
+    if (!s || !shard_id(f.merge, &a) || !shard_id(f.adjacent, &b)
+        || a >= s->count || b >= s->count || !s->shards[a].open || !s->shards[b].open) exit(1);
     struct shard *one = &s->shards[a], *other = &s->shards[b];
     if (one->end + 1 != other->start && other->end + 1 != one->start) exit(1);
-    u128 start = one->start < other->start ? one->start : other->start, last = one->end > other->end ? one->end : other->end;
+    u128 start = one->start < other->start ? one->start : other->start;
+    u128 last = one->end > other->end ? one->end : other->end;
     uint64_t seq = s->next++;
     close_shard(s, a, seq);
     close_shard(s, b, seq);
@@ -434,17 +454,18 @@ static void merge(const char *body, const char *end) {
 
 /* ---- leases */
 
-/* Numbers behind a word, each with one space before it, to the end of the line. */
+/* Numbers after a word, each with one space before it, to the end of the line. */
 static void numbers(const char *at, const char *end, int count, uint64_t *n) {
     for (int i = 0; i < count; i++)
         if (at == end || *at++ != ' ' || !(at = digits(at, end, &n[i]))) exit(1);
     if (at != end) exit(1);
 }
 
-/* A row's key behind a word, STREAM/SHARD, and the place behind it. */
+/* A row's key after a word, STREAM/SHARD, and the place after it. */
 static const char *row_key(const char *at, const char *end, size_t *stream, size_t *shard) {
     uint64_t s, sh;
-    if (at == end || *at++ != ' ' || !(at = digits(at, end, &s)) || at == end || *at++ != '/' || !(at = digits(at, end, &sh))) exit(1);
+    if (at == end || *at++ != ' ' || !(at = digits(at, end, &s)) || at == end || *at++ != '/'
+        || !(at = digits(at, end, &sh))) exit(1);
     if (!s || s > stream_count || sh >= streams[s - 1].count || sh >= 4096) exit(1);
     *stream = s - 1;
     *shard = sh;
@@ -462,7 +483,9 @@ static void take_row(const char *at, const char *end, unsigned by) {
     size_t s, sh;
     uint64_t counter, worker;
     at = row_key(at, end, &s, &sh);
-    if (at == end || *at++ != ' ' || !(at = digits(at, end, &counter)) || end - at < 3 || memcmp(at, " w", 2) || digits(at + 2, end, &worker) != end || !worker || worker >> 32) exit(1);
+    if (at == end || *at++ != ' ' || !(at = digits(at, end, &counter)) || end - at < 3
+        || memcmp(at, " w", 2) || digits(at + 2, end, &worker) != end || !worker
+        || worker >> 32) exit(1);
     struct lease *l = &leases[s][sh];
     if (!l->there || l->counter != counter) exit(1);
     if (tenure_count == tenure_room) {
@@ -567,7 +590,8 @@ static void request(struct text name, const char *body, const char *end) {
 
 static void line(const char *at, const char *end) {
     uint64_t moment;
-    if (end - at > MOST_LINE || !(at = digits(at, end, &moment)) || moment >> 62 || end - at < 5 || *at++ != ' ') exit(3);
+    if (end - at > MOST_LINE || !(at = digits(at, end, &moment)) || moment >> 62
+        || end - at < 5 || *at++ != ' ') exit(3);
     if (!memcmp(at, "raw ", 4)) {
         if (moment > clock_) clock_ = moment;
         raw(at + 4, end);

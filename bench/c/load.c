@@ -1,4 +1,4 @@
-/* A load of keep-alive connections on a server: each has a thread, which sends so many requests at once and waits for
+/* A load of keep-alive connections on a server: each has a thread, which sends some requests at once and waits for
  * their responses, until the time is over. Prints the requests a second.
  *
  *     load PORT CELL CONNECTIONS AT_ONCE SECONDS
@@ -20,7 +20,7 @@
 
 static int port, at_once;
 static double until;
-/* so many requests of this length, one behind another */
+/* requests of this length, one after another, and how many */
 static char *asked;
 static size_t asked_len, asked_count;
 
@@ -32,7 +32,8 @@ static double seconds(void) {
 
 static int reach(void) {
     int socket_ = socket(AF_INET, SOCK_STREAM, 0), on = 1;
-    struct sockaddr_in at = {.sin_family = AF_INET, .sin_port = htons((uint16_t)port), .sin_addr = {htonl(INADDR_LOOPBACK)}};
+    struct sockaddr_in at = {.sin_family = AF_INET, .sin_port = htons((uint16_t)port),
+                                 .sin_addr = {htonl(INADDR_LOOPBACK)}};
     if (connect(socket_, (struct sockaddr *)&at, sizeof at)) {
         perror("connect");
         exit(1);
@@ -41,7 +42,7 @@ static int reach(void) {
     return socket_;
 }
 
-/* Takes whole responses off the front, which are in the buffer or still to come, until so many are done. */
+/* Takes whole responses off the front, which are in the buffer or still to come, until `count` are done. */
 static void take_responses(int socket, char *room, size_t size, size_t *len, int count) {
     for (;;) {
         size_t used = 0;
@@ -109,8 +110,9 @@ static char *item(char *to, size_t bytes, size_t i) {
 /* A request whose body is that of the cell. */
 static size_t write_request(char *to, const char *operation, const char *body, size_t len) {
     return (size_t)sprintf(to,
-                           "POST / HTTP/1.1\r\nHost: 127.0.0.1:4567\r\nX-Amz-Target: Kinesis_20131202.%s\r\nContent-Type: "
-                           "application/x-amz-json-1.1\r\nAuthorization: AWS4-HMAC-SHA256 x\r\nContent-Length: %zu\r\n\r\n%.*s",
+                           "POST / HTTP/1.1\r\nHost: 127.0.0.1:4567\r\nX-Amz-Target: Kinesis_20131202.%s\r\n"
+                           "Content-Type: application/x-amz-json-1.1\r\nAuthorization: AWS4-HMAC-SHA256 x\r\n"
+                           "Content-Length: %zu\r\n\r\n%.*s",
                            operation, len, (int)len, body);
 }
 

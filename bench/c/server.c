@@ -1,7 +1,8 @@
 /* A ceiling for `kds serve`: a thread a connection, one store under one lock.
  *
- *     server PORT full     the least honest work on each request, as strict as the program is: the head by its headers, the body in one
- *                          pass (strict.h), names, several streams with their shards, MD5, base64, what a shard takes within a second
+ *     server PORT full     the least honest work on each request, as strict as the program is: the head by its
+ *                          headers, the body in one pass (strict.h), names, several streams with their shards, MD5,
+ *                          base64, what a shard takes within a second
  *     server PORT bare     finds the end of the head and the Data member, copies it, and writes the response
  *
  * Of operations and of refusals it knows those that bench/serve asks for, and no others. */
@@ -54,7 +55,7 @@ static char *more(struct buffer *b, size_t bytes) {
 
 #define HEAD 128
 
-/* A body is written where it is sent from, behind room for its head. */
+/* A body is written where it is sent from, after room for its head. */
 static char *begin_body(struct buffer *out, size_t most) {
     return more(out, HEAD + most) + HEAD;
 }
@@ -278,7 +279,8 @@ static int read_head(const char *at, const char *end, struct head *h) {
             h->target = value;
             h->targets++;
         } else if (is(name, "Content-Type")) {
-            h->is_json = value.len >= 26 && !memcmp(value.at, "application/x-amz-json-1.1", 26) && (value.len == 26 || value.at[26] == ';');
+            h->is_json = value.len >= 26 && !memcmp(value.at, "application/x-amz-json-1.1", 26)
+                                     && (value.len == 26 || value.at[26] == ';');
             h->types++;
         } else if (is(name, "Connection")) {
             h->closes |= is(value, "close");
@@ -294,7 +296,8 @@ static void answer(struct head *h, const char *body, struct buffer *out) {
     static const char front[] = "Kinesis_20131202.";
     const char *end = body + h->length;
     size_t skipped = sizeof front - 1;
-    if (h->targets != 1 || h->types != 1 || !h->is_json || h->target.len <= skipped || memcmp(h->target.at, front, skipped)) exit(1);
+    if (h->targets != 1 || h->types != 1 || !h->is_json || h->target.len <= skipped
+        || memcmp(h->target.at, front, skipped)) exit(1);
     struct text name = {h->target.at + skipped, h->target.len - skipped};
     if (IS(name, "PutRecord")) put(body, end, out);
     else if (IS(name, "PutRecords")) put_many(body, end, out);
@@ -342,7 +345,8 @@ static int send_all(int socket, struct buffer *out) {
     return 1;
 }
 
-/* Answers the request at the front, if it is whole, and gives how many bytes it has. One that isn't needs so many, as soon as its head is whole. */
+/* Answers the request at the front, if it is whole, and gives how many bytes it has. One that isn't needs so
+ * many, as soon as its head is whole. */
 static size_t answer_front(const char *head, size_t unread, size_t *needs, struct buffer *out) {
     if (unread < *needs) return 0;
     const char *end = unread ? memmem(head, unread, "\r\n\r\n", 4) : NULL;
@@ -391,7 +395,8 @@ int main(int count, char **words) {
     base64_begin();
     int door = socket(AF_INET, SOCK_STREAM, 0), on = 1;
     setsockopt(door, SOL_SOCKET, SO_REUSEADDR, &on, sizeof on);
-    struct sockaddr_in at = {.sin_family = AF_INET, .sin_port = htons((uint16_t)atoi(words[1])), .sin_addr = {htonl(INADDR_LOOPBACK)}};
+    struct sockaddr_in at = {.sin_family = AF_INET, .sin_port = htons((uint16_t)atoi(words[1])),
+                                 .sin_addr = {htonl(INADDR_LOOPBACK)}};
     if (bind(door, (struct sockaddr *)&at, sizeof at) || listen(door, 128)) return 8;
     puts("listening");
     fflush(stdout);

@@ -1,5 +1,5 @@
-/* Strict readings, as the program's own are: UTF-8, a JSON object in one pass, numbers in their one spelling, base64 without bits past its
- * end, names and keys within their lengths. What the ceilings of this folder share. */
+/* Strict readings, as the program's own are: UTF-8, a JSON object in one pass, numbers in their one spelling, base64
+ * without bits past its end, names and keys within their lengths. What the ceilings of this folder share. */
 #ifndef STRICT_H
 #define STRICT_H
 #include "least.h"
@@ -7,7 +7,7 @@
 
 /* ---- numbers in decimal, without a needless zero in front */
 
-/* Reads a number below 2^64, and gives the place behind it, or NULL. */
+/* Reads a number below 2^64, and gives the place after it, or NULL. */
 static const char *digits(const char *at, const char *end, uint64_t *n) {
     unsigned digit;
     if (at == end || (digit = (unsigned char)*at - '0') > 9) return NULL;
@@ -35,7 +35,8 @@ static int whole(struct text t, uint64_t *n) {
 static int eight(const char *at, uint64_t *n) {
     uint64_t v;
     memcpy(&v, at, 8);
-    if (((v & 0xf0f0f0f0f0f0f0f0) | ((v + 0x0606060606060606) & 0xf0f0f0f0f0f0f0f0) >> 4) != 0x3333333333333333) return 0;
+    if (((v & 0xf0f0f0f0f0f0f0f0) | ((v + 0x0606060606060606) & 0xf0f0f0f0f0f0f0f0) >> 4) != 0x3333333333333333)
+        return 0;
     v = (v & 0x0f0f0f0f0f0f0f0f) * 2561 >> 8;
     v = (v & 0x00ff00ff00ff00ff) * 6553601 >> 16;
     *n = (v & 0x0000ffff0000ffff) * 42949672960001 >> 32;
@@ -94,7 +95,8 @@ static int utf8(const unsigned char *at, const unsigned char *end) {
         int n = c >= 0xc2 && c < 0xe0 ? 1 : c >= 0xe0 && c < 0xf0 ? 2 : c >= 0xf0 && c < 0xf5 ? 3 : 0;
         if (!n || end - at <= n) return 0;
         unsigned d = at[1];
-        if ((d & 0xc0) != 0x80 || (c == 0xe0 && d < 0xa0) || (c == 0xed && d > 0x9f) || (c == 0xf0 && d < 0x90) || (c == 0xf4 && d > 0x8f)) return 0;
+        if ((d & 0xc0) != 0x80 || (c == 0xe0 && d < 0xa0) || (c == 0xed && d > 0x9f)
+            || (c == 0xf0 && d < 0x90) || (c == 0xf4 && d > 0x8f)) return 0;
         for (int i = 2; i <= n; i++) if ((at[i] & 0xc0) != 0x80) return 0;
         at += n + 1;
     }
@@ -118,7 +120,9 @@ static int hex4(const char *at, const char *end, unsigned *out) {
     *out = 0;
     for (int i = 0; i < 4; i++) {
         char c = at[i];
-        int v = c >= '0' && c <= '9' ? c - '0' : c >= 'a' && c <= 'f' ? c - 'a' + 10 : c >= 'A' && c <= 'F' ? c - 'A' + 10 : -1;
+        int v = c >= '0' && c <= '9' ? c - '0'
+            : c >= 'a' && c <= 'f' ? c - 'a' + 10
+            : c >= 'A' && c <= 'F' ? c - 'A' + 10 : -1;
         if (v < 0) return 0;
         *out = *out * 16 + (unsigned)v;
     }
@@ -126,21 +130,32 @@ static int hex4(const char *at, const char *end, unsigned *out) {
 }
 
 static char *put_code(char *t, unsigned c) {
-    if (c < 0x80) *t++ = (char)c;
-    else if (c < 0x800) { *t++ = (char)(0xc0 | c >> 6); *t++ = (char)(0x80 | (c & 63)); }
-    else if (c < 0x10000) { *t++ = (char)(0xe0 | c >> 12); *t++ = (char)(0x80 | (c >> 6 & 63)); *t++ = (char)(0x80 | (c & 63)); }
-    else { *t++ = (char)(0xf0 | c >> 18); *t++ = (char)(0x80 | (c >> 12 & 63)); *t++ = (char)(0x80 | (c >> 6 & 63)); *t++ = (char)(0x80 | (c & 63)); }
+    if (c < 0x80) {
+        *t++ = (char)c;
+    } else if (c < 0x800) {
+        *t++ = (char)(0xc0 | c >> 6);
+        *t++ = (char)(0x80 | (c & 63));
+    } else if (c < 0x10000) {
+        *t++ = (char)(0xe0 | c >> 12);
+        *t++ = (char)(0x80 | (c >> 6 & 63));
+        *t++ = (char)(0x80 | (c & 63));
+    } else {
+        *t++ = (char)(0xf0 | c >> 18);
+        *t++ = (char)(0x80 | (c >> 12 & 63));
+        *t++ = (char)(0x80 | (c >> 6 & 63));
+        *t++ = (char)(0x80 | (c & 63));
+    }
     return t;
 }
 
-/* A string behind its first quote. */
+/* A string after its first quote. */
 static const char *string(const char *at, const char *end, struct text *text) {
     const char *from = at;
     for (;;) {
         if (end - at >= 16) {
             __m128i v = _mm_loadu_si128((const __m128i *)at);
-            __m128i stop = _mm_or_si128(_mm_or_si128(_mm_cmpeq_epi8(v, _mm_set1_epi8('"')), _mm_cmpeq_epi8(v, _mm_set1_epi8('\\'))),
-                                        _mm_cmpeq_epi8(_mm_min_epu8(v, _mm_set1_epi8(31)), v));
+            __m128i signs = _mm_or_si128(_mm_cmpeq_epi8(v, _mm_set1_epi8('"')), _mm_cmpeq_epi8(v, _mm_set1_epi8('\\')));
+            __m128i stop = _mm_or_si128(signs, _mm_cmpeq_epi8(_mm_min_epu8(v, _mm_set1_epi8(31)), v));
             int mask = _mm_movemask_epi8(stop);
             if (!mask) { at += 16; continue; }
             at += __builtin_ctz((unsigned)mask);
@@ -172,7 +187,8 @@ static const char *string(const char *at, const char *end, struct text *text) {
             at += 4;
             if (u >= 0xdc00 && u < 0xe000) return NULL;
             if (u >= 0xd800 && u < 0xdc00) {
-                if (end - at < 6 || at[0] != '\\' || at[1] != 'u' || !hex4(at + 2, end, &w) || w < 0xdc00 || w > 0xdfff) return NULL;
+                if (end - at < 6 || at[0] != '\\' || at[1] != 'u' || !hex4(at + 2, end, &w)
+                    || w < 0xdc00 || w > 0xdfff) return NULL;
                 u = 0x10000 + ((u - 0xd800) << 10) + (w - 0xdc00);
                 at += 6;
             }
@@ -291,7 +307,8 @@ static __thread struct item items[MOST_ITEMS];
 static __thread size_t item_count;
 
 /* The members that requests have. */
-struct found { struct value stream, key, data, hash, records, iterator, limit, count, split, start, merge, adjacent, after, most; };
+struct found { struct value stream, key, data, hash, records, iterator, limit, count, split, start, merge, adjacent,
+                    after, most; };
 
 static void take_member(void *to_, struct text name, struct value v) {
     struct found *f = to_;
@@ -357,7 +374,8 @@ static int is_name(struct text t) {
     if (!t.len || t.len > 128) return 0;
     for (size_t i = 0; i < t.len; i++) {
         char c = t.at[i];
-        if (!((c >= 'a' && c <= 'z') || (c >= 'A' && c <= 'Z') || (c >= '0' && c <= '9') || c == '_' || c == '.' || c == '-')) return 0;
+        if (!((c >= 'a' && c <= 'z') || (c >= 'A' && c <= 'Z') || (c >= '0' && c <= '9') || c == '_' || c == '.'
+              || c == '-')) return 0;
     }
     return 1;
 }

@@ -1,0 +1,1 @@
+"""Tests of `tools/schedule` and `tools/dump`."""

@@ -1,0 +1,1 @@
+"""Tests of `kds serve` by clients of all kinds."""

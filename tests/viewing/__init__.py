@@ -1,0 +1,1 @@
+"""What `tests/viewer` looks at tools/journal.html with."""

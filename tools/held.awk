@@ -1,0 +1,61 @@
+# Of a journal: who held which lease when, a line for each tenure in the order of their beginnings. A table of names
+# (tools/schedule --to) may stand before the journal: awk -f tools/held.awk names.txt incident.journal
+function two(n) { return n < 10 ? "0" n : n }
+# Milliseconds since 1970 as a date; small ones, as in most examples, stay as they are.
+function date(ms,   days, rest, era, day, year, month) {
+    if (ms < 100000000000) return ms
+    days = int(ms / 86400000); rest = ms - days * 86400000
+    era = int((days + 719468) / 146097); day = days + 719468 - era * 146097
+    year = int((day - int(day / 1460) + int(day / 36524) - int(day / 146096)) / 365)
+    day -= 365 * year + int(year / 4) - int(year / 100); month = int((5 * day + 2) / 153)
+    day -= int((153 * month + 2) / 5) - 1
+    year += era * 400; month += month < 10 ? 3 : -9; if (month < 3) year++
+    return year "-" two(month) "-" two(day) "T" two(int(rest / 3600000)) ":" two(int(rest / 60000) % 60) ":" \
+        two(int(rest / 1000) % 60) "." substr(1000 + rest % 1000, 2) "Z"
+}
+function named(word) { return word in name ? name[word] : word }
+function record(of, n) { return (of, n) in number ? n " (" number[of, n] ")" : n }
+# A tenure ends once: what it does after that is told by its last delivery.
+function over(t, at, why) { if (t != "" && !(t in end)) { end[t] = at; how[t] = why } }
+# What a terminal would take for a command is no word of a file.
+/[^ -~]/ { gsub(/[^ -~]/, "?") }
+# Another file has no answer: what isn't a journal, names that come too late, or names of another journal, which their
+# second line tells.
+$1 == "names" && read_any { late = 1 }
+$1 == "journal" && NF == 3 { named_entries = $2; named_end = $3 }
+function is_entry() {
+    return $3 ~ /^(made|gone|put|split|merged|kept|enforced)$/ || \
+        $3 ~ /^(lease|taken|renewed|freed|opened|read|given|marked|cut)$/
+}
+$1 ~ /^[0-9]+$/ && $2 ~ /^[0-9]+$/ && is_entry() { entries++; read_any = 1 }
+$1 == "end" && NF == 2 { clock = $2; read_any = 1 }
+$1 == "worker" || $1 == "shard" { name[$2] = $3 }
+$1 == "record" { split($2, part, "/"); number[part[1], part[2]] = $3 }
+$3 == "taken"  { split($4, part, "/"); stream[$5] = part[1] }
+$3 == "taken"  {
+    over(holder[$4], $1, who[holder[$4]] == $7 ? "taken by itself" : "taken by " named($7))
+    key[$5] = $4; who[$5] = $7; begun[$5] = $1; holder[$4] = $5; order[++n] = $5
+}
+$3 == "freed"  { over($4, $1, "freed"); holder[key[$4]] = "" }
+$3 == "cut"    { over(holder[$4], $1, "the row was removed"); holder[$4] = "" }
+$3 == "opened" { opened[$4] = $1 }
+$3 == "read"   { size[$4, ++read[$4]] = NF - 6 }
+$3 == "given"  { if (size[$4, ++given[$4]]) last[$4] = $1 }
+$3 == "marked" { mark[$4] = $6 == "end" ? "SHARD_END" : record(stream[$4], $6) }
+END {
+    if (late) why = "names.txt stands before the journal"
+    else if (!read_any) why = "no journal was read: give incident.journal, or what ./kds replay --journal writes"
+    else if (named_end != "" && (named_entries != entries + 0 || named_end != clock))
+        why = "the names are of another journal, of " named_entries " entries, and this one has " entries + 0
+    if (why) {
+        print "held.awk: " why > "/dev/stderr"
+        exit 2
+    }
+    for (i = 1; i <= n; i++) {
+        t = order[i]
+        until = t in end ? " to " date(end[t]) ", " how[t] : " on, held at the end, " date(clock)
+        late_one = t in end && last[t] > end[t] ? ", delivered after that until " date(last[t]) : ""
+        print named(key[t]) ": tenure " t ", " named(who[t]) ", from " date(begun[t]) until \
+            (t in opened ? "" : ", never opened") (t in mark ? ", checkpoint " mark[t] : ", no checkpoint") late_one
+    }
+}
